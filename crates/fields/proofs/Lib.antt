@@ -1,0 +1,3 @@
+pub mod Past
+pub mod Parts
+pub mod Cut

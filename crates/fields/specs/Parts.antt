@@ -1,0 +1,19 @@
+-- Document 01, 'PSID and RSID', last paragraph: a text cut at a zero, and a payload put into memory.
+-- beforeZero   'cut before the first zero among them'
+-- put          the bytes p in the place of those from a on, 'every cell but the payload's as it stood'
+use Prim.Native.Nat.{ℕ, _+_}
+use mathlib.Core.Bool.{Bool, true, false}
+use mathlib.Core.List.{List, [], _∷_, _++_}
+use lib.ListN.{length, take, drop}
+use lib.Dec.{eqb}
+
+abbrev pub unlessZero : Bool → ℕ → List ℕ → List ℕ
+unlessZero true b later = []
+unlessZero false b later = b ∷ later
+
+unfoldable pub beforeZero : List ℕ → List ℕ
+beforeZero [] = []
+beforeZero (b ∷ bs) = unlessZero (eqb b 0) b (beforeZero bs)
+
+unfoldable pub put : List ℕ → ℕ → List ℕ → List ℕ
+put m a p = take a m ++ p ++ drop (a + length p) m

@@ -1,0 +1,90 @@
+// Numbers, parts and texts in lent bytes, and the copy of bytes into memory. A read past the end gives 0, so that no
+// reader needs to know a length first.
+ghost use mathlib.Core.Path.{_≡_};
+ghost use Prim.Native.Nat.{_+_, _≤_};
+ghost use lib.ListN.{length, getD, take, drop};
+ghost use Rattle.fields.specs.Numbers.{be16, be32, le16};
+ghost use Rattle.fields.specs.Parts.{beforeZero, put};
+
+// The byte at k, 0 past the end.
+pub fn byte_at(s: &[u8], k: usize) -> u8
+    ensures { λ r. ⌜ r ≡ getD (now (s .entry)) k 0 ⌝ }
+{
+    if k < s.len() { s[k] } else { 0 }
+}
+
+// Two bytes from k on, high byte first.
+pub fn be16(s: &[u8], k: usize) -> u16
+    ensures { λ r. ⌜ r ≡ be16 (now (s .entry)) k ⌝ }
+{
+    if s.len() <= k {
+        return 0;
+    }
+    let high = byte_at(s, k);
+    let low = byte_at(s, k + 1);
+    high as u16 * 256 + low as u16
+}
+
+// Two bytes from k on, low byte first.
+pub fn le16(s: &[u8], k: usize) -> u16
+    ensures { λ r. ⌜ r ≡ le16 (now (s .entry)) k ⌝ }
+{
+    if s.len() <= k {
+        return 0;
+    }
+    let low = byte_at(s, k);
+    let high = byte_at(s, k + 1);
+    low as u16 + high as u16 * 256
+}
+
+// Four bytes from k on, high byte first.
+pub fn be32(s: &[u8], k: usize) -> u32
+    ensures { λ r. ⌜ r ≡ be32 (now (s .entry)) k ⌝ }
+{
+    if s.len() <= k {
+        return 0;
+    }
+    let high = be16(s, k);
+    let low = be16(s, k + 2);
+    high as u32 * 65536 + low as u32
+}
+
+// The len bytes from from on; of them only those that lie in the slice.
+pub fn part(s: &[u8], from: usize, len: usize) -> &[u8]
+    ensures { λ r. ⌜ now r ≡ take len (drop from (now (s .entry))) ⌝ }
+{
+    if s.len() <= from {
+        return &s[..0];
+    }
+    if len <= s.len() - from {
+        &s[from..from + len]
+    } else {
+        &s[from..]
+    }
+}
+
+// How many bytes stand before the first zero; all of them where there is none.
+pub fn text_length(s: &[u8]) -> usize
+    ensures { λ r. ⌜ r ≡ length (beforeZero (now (s .entry))) ⌝ }
+{
+    let mut n = 0;
+    while n < s.len() {
+        if s[n] == 0 {
+            return n;
+        }
+        n += 1;
+    }
+    s.len()
+}
+
+// internal: the bytes of src in the place of as many of memory's from at on. Callers see that they fit.
+pub fn copy_to(src: &[u8], memory: &mut [u8], at: usize)
+    requires { ⌜ at + length (now src) ≤ length (now memory) ⌝ }
+    ensures { λ _. ⌜ now (memory .exit) ≡ put (now (memory .entry)) at (now (src .entry)) ⌝ }
+{
+    let mut j = 0;
+    while j < src.len() {
+        memory[at + j] = src[j];
+        j += 1;
+    }
+}

@@ -1,0 +1,66 @@
+-- Laws of ordered tests, for every list of them.
+-- passed-none, none-passed   a list passes exactly when none of its tests applies
+-- first-answers              the answer is that of the first test that applies
+-- first-append               a list in two parts: the second counts where the first passes
+-- tested-first               tests made one by one come to what the list comes to
+-- guarded-accepted           what comes after tests is accepted only where they pass
+use Prim.Native.Nat.{ℕ}
+use mathlib.Core.Path.{_≡_, refl}
+use native.Mathlib.Omega.{arith}
+use mathlib.Core.Bool.{Bool, true, false}
+use mathlib.Core.List.{List, [], _∷_, _++_}
+use Rattle.refusals.specs.declared.Verdict.{Verdict}
+use Rattle.refusals.specs.declared.Verdict.the-variants.{Passed, Failed}
+use Rattle.refusals.specs.Numbers.{Reason, Outcome, numberOf}
+use Rattle.refusals.specs.Numbers.Outcome.{accepted}
+use Rattle.refusals.specs.Tests.{Test, pick, test, firstOf, None, guarded, tested}
+
+pick-passed : (b : Bool) (n : ℕ) (v : Verdict) → pick b (Failed n) v ≡ Passed → (b ≡ false) × (v ≡ Passed)
+pick-passed true n v e = let z : _≡_ {A = ℕ} 0 1 = cc in absurd (omega arith)
+pick-passed false n v e = (refl, e)
+
+pub passed-none : (ts : List Test) → firstOf ts ≡ Passed → None ts
+passed-none [] e = tt
+passed-none (t ∷ ts) e = let p = pick-passed (t .applies) (numberOf (t .reason)) (firstOf ts) e in (p .0, passed-none ts (p .1))
+
+pub none-passed : (ts : List Test) → None ts → firstOf ts ≡ Passed
+none-passed [] h = refl
+none-passed (t ∷ ts) h = rw (h .0) (none-passed ts (h .1))
+
+pub first-answers : (before after : List Test) (r : Reason) → None before
+    → firstOf (before ++ test r true ∷ after) ≡ Failed (numberOf r)
+first-answers [] after r h = refl
+first-answers (t ∷ ts) after r h = rw (h .0) (first-answers ts after r (h .1))
+
+abbrev pub later : Verdict → Verdict → Verdict
+later Passed v = v
+later (Failed n) v = Failed n
+
+pub first-append : (ts us : List Test) → firstOf (ts ++ us) ≡ later (firstOf ts) (firstOf us)
+first-append [] us = refl
+first-append (t ∷ ts) us = go (t .applies) (firstOf us) (first-append ts us)
+  where
+    go : (b : Bool) {v : Verdict} (w : Verdict) → v ≡ later (firstOf ts) w → pick b (Failed (numberOf (t .reason))) v ≡ later (pick b (Failed (numberOf (t .reason))) (firstOf ts)) w
+    go true w e = refl
+    go false w e = e
+
+-- the tests made one by one, from a verdict on
+abbrev pub testedAll : Verdict → List Test → Verdict
+testedAll v [] = v
+testedAll v (t ∷ ts) = testedAll (tested v (t .applies) (numberOf (t .reason))) ts
+
+tested-failed : (n : ℕ) (ts : List Test) → testedAll (Failed n) ts ≡ Failed n
+tested-failed n [] = refl
+tested-failed n (t ∷ ts) = tested-failed n ts
+
+pub tested-first : (ts : List Test) → testedAll Passed ts ≡ firstOf ts
+tested-first [] = refl
+tested-first (t ∷ ts) = go (t .applies) (tested-first ts)
+  where
+    go : (b : Bool) {v : Verdict} → testedAll Passed ts ≡ v → testedAll (pick b (Failed (numberOf (t .reason))) Passed) ts ≡ pick b (Failed (numberOf (t .reason))) v
+    go true e = tested-failed (numberOf (t .reason)) ts
+    go false e = e
+
+pub guarded-accepted : {A : Type 0} (v : Verdict) (a b : A) → guarded v (accepted b) ≡ accepted a → (v ≡ Passed) × (b ≡ a)
+guarded-accepted Passed a b e = (refl, cc)
+guarded-accepted (Failed n) a b e = let z : _≡_ {A = ℕ} 0 1 = cc in absurd (omega arith)

@@ -1,0 +1,29 @@
+-- Document 01, 'What comes back': the number of each refusal by name, and what a call comes back with.
+-- Reason, numberOf   the table: why a call refuses, and its number
+-- Outcome            a call's result as the paper has it: a value, or a refusal's number and place
+use Prim.Native.Nat.{ℕ}
+
+pub data Reason : Type 0 where
+  tooShort magic version dataOffset rsidReserved songs reservedBits musPayload noPayload pastMemory rsidLoad rsidInit freePages : Reason
+  memorySize noSuchSong : Reason
+
+abbrev pub numberOf : Reason → ℕ
+numberOf tooShort = 1
+numberOf magic = 2
+numberOf version = 3
+numberOf dataOffset = 4
+numberOf rsidReserved = 5
+numberOf songs = 6
+numberOf reservedBits = 7
+numberOf musPayload = 8
+numberOf noPayload = 9
+numberOf pastMemory = 10
+numberOf rsidLoad = 11
+numberOf rsidInit = 12
+numberOf freePages = 13
+numberOf memorySize = 40
+numberOf noSuchSong = 44
+
+pub data Outcome (A : Type 0) : Type 0 where
+  accepted : A → Outcome A
+  refused : ℕ → ℕ → Outcome A

@@ -1,0 +1,65 @@
+// What a refused call answers: the numbers of document 01's table 'What comes back' by name, a refusal with its place,
+// and the verdict of tests made in order.
+ghost use mathlib.Core.Path.{_≡_};
+ghost use Rattle.refusals.specs.Tests.{tested};
+
+// PSID and RSID
+pub const TOO_SHORT: u32 = 1;
+
+pub const MAGIC: u32 = 2;
+
+pub const VERSION: u32 = 3;
+
+pub const DATA_OFFSET: u32 = 4;
+
+pub const RSID_RESERVED: u32 = 5;
+
+pub const SONGS: u32 = 6;
+
+pub const RESERVED_BITS: u32 = 7;
+
+pub const MUS_PAYLOAD: u32 = 8;
+
+pub const NO_PAYLOAD: u32 = 9;
+
+pub const PAST_MEMORY: u32 = 10;
+
+pub const RSID_LOAD: u32 = 11;
+
+pub const RSID_INIT: u32 = 12;
+
+pub const FREE_PAGES: u32 = 13;
+// What a caller hands in
+pub const MEMORY_SIZE: u32 = 40;
+
+pub const NO_SUCH_SONG: u32 = 44;
+
+// A refusal: the paper's number, and the place in the file, 0 where the paper gives none.
+pub struct Refusal {
+    pub number: u32,
+    pub place: usize,
+}
+
+// What tests made in order come to: none has applied, or the number of the first that did.
+pub enum Verdict {
+    Passed,
+    Failed(u32),
+}
+
+impl Verdict {
+    // The verdict after one more test.
+    pub fn test(self, applies: bool, number: u32) -> Verdict
+        ensures { λ r. ⌜ r ≡ tested self applies number ⌝ }
+    {
+        match self {
+            Verdict::Failed(n) => Verdict::Failed(n),
+            Verdict::Passed => {
+                if applies {
+                    Verdict::Failed(number)
+                } else {
+                    Verdict::Passed
+                }
+            }
+        }
+    }
+}

@@ -1,0 +1,45 @@
+-- `piece_of` meets its contract, by the reading of the file. Assumes nothing.
+use mathlib.Core.Path.{sym, ap, _∙_}
+use denote.Ref.{now}
+use borrow.Author.Needs.{needs}
+use Rattle.sid.specs.Answers.{told}
+use Rattle.sid.proofs.Outcomes.{piece-refused, piece-accepted}
+use Rattle.sid.proofs.piece.piece_of.Statement.{statement}
+use Rattle.sid.proofs.piece.piece_of.Tie as tie
+
+read-requires : tie.Need-read-requires
+read-requires c κs = search needs
+
+enum-told : tie.Need-enum-told
+enum-told c = search needs
+
+slice-aggregate-result : tie.Need-slice-aggregate-result
+slice-aggregate-result c = search needs
+
+enum-known-answer : tie.Need-enum-known-answer
+enum-known-answer c = search needs
+
+span-of-requires : tie.Need-span-of-requires
+span-of-requires c κs = search needs
+
+part-requires : tie.Need-part-requires
+part-requires c κs = search needs
+
+returns : tie.Need-returns
+returns c = piece-refused (now (c .before .before .before .before .before .args .file)) (c .before .before .before .before .before .args .piece) _ _ (sym (ap told (c .before .enum-told .given .1)) ∙ c .before .before .before .read .ensures)
+
+returns-2 : tie.Need-returns-2
+returns-2 c = rw (c .part .ensures, c .before .span-of .ensures) (piece-accepted (now (c .before .before .before .before .before .before .before .args .file)) (c .before .before .before .before .before .before .before .args .piece) _ (sym (ap told (c .before .before .before .answer .given .1)) ∙ c .before .before .before .before .before .read .ensures))
+
+pub piece-of-spec : {M : Type 1} → statement M
+piece-of-spec =
+    tie.close
+    (tie.spec
+    read-requires
+    enum-told
+    slice-aggregate-result
+    enum-known-answer
+    span-of-requires
+    part-requires
+    returns
+    returns-2)

@@ -1,0 +1,53 @@
+-- Document 01, 'PSID and RSID', and source 003: what an accepted file says of itself.
+-- kindOf     the magic by name
+-- startOf    'Start song 0 reads as 1'
+-- textAt     'A text is its first 31 bytes, cut before the first zero among them'
+-- spanAt     where the text at an offset lies
+-- headerOf   the header; 'effective init' and load address, the flag bits taken apart as in 003
+use Prim.Native.Nat.{ℕ, _/_, _%_}
+use mathlib.Core.List.{List}
+use lib.ListN.{length, take, drop}
+use lib.Dec.{eqb}
+use Rattle.refusals.specs.Tests.{pick}
+use Rattle.fields.specs.Parts.{beforeZero}
+use Rattle.sidheader.specs.declared.Fields.{Fields}
+use Rattle.sidheader.specs.declared.Payload.{Payload}
+use Rattle.sidrefusals.specs.PayloadTests.{initOf, basic}
+use Rattle.sid.specs.declared.Kind.{Kind}
+use Rattle.sid.specs.declared.Kind.the-variants.{Psid, Rsid}
+use Rattle.sid.specs.declared.Span.{Span}
+use Rattle.sid.specs.declared.Header.{Header}
+
+abbrev pub kindOf : ℕ → Kind
+kindOf magic = pick (eqb magic 0x52534944) Rsid Psid
+
+abbrev pub startOf : ℕ → ℕ
+startOf start = pick (eqb start 0) 1 start
+
+abbrev pub textAt : List ℕ → ℕ → List ℕ
+textAt f at = beforeZero (take 31 (drop at f))
+
+abbrev pub spanAt : List ℕ → ℕ → Span
+spanAt f at = record { from = at; len = length (textAt f at) }
+
+unfoldable pub headerOf : List ℕ → Fields → Payload → Header
+headerOf f x p =
+    record {
+      kind = kindOf (x .magic);
+      version = x .version;
+      load = p .load;
+      init = initOf x p;
+      play = x .play;
+      songs = x .songs;
+      start = startOf (x .start);
+      speed = x .speed;
+      basic = basic x;
+      clock = x .flags / 4 % 4;
+      model = x .flags / 16 % 4;
+      page = x .page;
+      pages = x .pages;
+      title = spanAt f 0x16;
+      author = spanAt f 0x36;
+      released = spanAt f 0x56;
+      payload = record { from = p .from; len = p .len };
+    }

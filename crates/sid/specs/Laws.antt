@@ -1,0 +1,68 @@
+-- A file is accepted exactly when none of 1 to 13 applies to it. Laws of reading and of the parts of an accepted file.
+-- none-accepted, accepted-none   'accepted exactly when no listed refusal applies'
+-- accepted-header                the header of an accepted file
+-- accepted-fits                  its payload lies within the 65,536 cells
+-- payload-whole                  its payload has as many bytes as the header says
+-- text-part                      a text's span names the text
+use Prim.Native.Nat.{ℕ, _+_, _-_, _≤_}
+use mathlib.Core.Path.{_≡_, refl, sym, ap, subst, _∙_}
+use mathlib.Core.Bool.{Bool, true, false}
+use mathlib.Core.List.{List}
+use native.Mathlib.Omega.{arith}
+use lib.ListN.{length, take, drop, length-take, length-drop}
+use lib.Seq.{take-take}
+use lib.Dec.{eqb}
+use borrow.Author.Tests.{ltb-false}
+use Rattle.refusals.specs.Numbers.Outcome.{accepted}
+use Rattle.refusals.specs.Tests.{None, firstOf, pick}
+use Rattle.refusals.specs.Laws.{passed-none, none-passed, guarded-accepted}
+use Rattle.fields.specs.Parts.{beforeZero}
+use Rattle.fields.specs.Laws.{take-before, length-before}
+use Rattle.sidheader.specs.declared.Fields.{Fields}
+use Rattle.sidheader.specs.Fields.{fieldsOf}
+use Rattle.sidheader.specs.Payload.{addressed, after, whole, payloadOf}
+use Rattle.sidrefusals.specs.PayloadTests.{sidTests}
+use Rattle.sid.specs.declared.Header.{Header}
+use Rattle.sid.specs.Header.{headerOf, textAt, spanAt}
+use Rattle.sid.specs.Answers.{sidOutcome}
+use Rattle.sid.specs.Pieces.{partOf}
+
+abbrev pub header : List ℕ → Header
+header f = headerOf f (fieldsOf f) (payloadOf f (fieldsOf f))
+
+pub none-accepted : (f : List ℕ) → None (sidTests f) → sidOutcome f ≡ accepted (header f)
+unfolding sidOutcome
+none-accepted f h = rw (none-passed (sidTests f) h)
+
+pub accepted-none : (f : List ℕ) (h : Header) → sidOutcome f ≡ accepted h → None (sidTests f)
+unfolding sidOutcome
+accepted-none f h e = passed-none (sidTests f) (guarded-accepted (firstOf (sidTests f)) h (header f) e .0)
+
+pub accepted-header : (f : List ℕ) (h : Header) → sidOutcome f ≡ accepted h → header f ≡ h
+unfolding sidOutcome
+accepted-header f h e = guarded-accepted (firstOf (sidTests f)) h (header f) e .1
+
+pub accepted-fits : (f : List ℕ) (h : Header) → sidOutcome f ≡ accepted h → h .load + h .payload .len ≤ 65536
+unfolding sidTests headerOf
+accepted-fits f h e =
+    let p = payloadOf f (fieldsOf f) in
+    let fits = ltb-false 65536 (p .load + p .len) (accepted-none f h e .1 .1 .1 .1 .1 .1 .1 .1 .1 .1 .0) in
+    subst (λ (k : Header). k .load + k .payload .len ≤ 65536) (accepted-header f h e) fits
+
+-- of any file, refused ones too, whichever way the payload lies
+pub payload-whole : (f : List ℕ) → length (partOf f (header f .payload)) ≡ header f .payload .len
+unfolding payloadOf headerOf fieldsOf
+payload-whole f = go (addressed (fieldsOf f))
+  where
+    size : (from : ℕ) → length (take (length f - from) (drop from f)) ≡ length f - from
+    size from = simp (length-take, length-drop) (omega arith)
+
+    go : (b : Bool) → length (take (pick b (after f (fieldsOf f)) (whole (fieldsOf f)) .len) (drop (pick b (after f (fieldsOf f)) (whole (fieldsOf f)) .from) f)) ≡ pick b (after f (fieldsOf f)) (whole (fieldsOf f)) .len
+    go true = size (fieldsOf f .offset + 2)
+    go false = size (fieldsOf f .offset)
+
+pub text-part : (f : List ℕ) (at : ℕ) → partOf f (spanAt f at) ≡ textAt f at
+text-part f at =
+    let text = take 31 (drop at f) in
+    let short : length (beforeZero text) ≤ 31 = omega (arith, length-before text, length-take 31 (drop at f)) in
+    sym (take-take (length (beforeZero text)) 31 (drop at f) short) ∙ take-before text

@@ -1,0 +1,42 @@
+-- Document 01, 'PSID and RSID': 'title, author, released text and payload are each a part of the lent bytes'.
+-- partOf                the part of a file that a span names; of it what lies in the file
+-- spanOf                a header's span by the part's name
+-- pieceIn, titleIn, ..  such a part of an accepted file; of a refused file nothing (docs/DECISIONS.md)
+use Prim.Native.Nat.{ℕ}
+use mathlib.Core.List.{List, []}
+use lib.ListN.{take, drop}
+use Rattle.refusals.specs.Numbers.{Outcome}
+use Rattle.refusals.specs.Numbers.Outcome.{accepted, refused}
+use Rattle.sid.specs.declared.Span.{Span}
+use Rattle.sid.specs.declared.Header.{Header}
+use Rattle.sid.specs.declared.piece.Piece.{Piece}
+use Rattle.sid.specs.declared.piece.Piece.the-variants.{Title, Author, Released, Payload}
+use Rattle.sid.specs.Answers.{sidOutcome}
+
+abbrev pub partOf : List ℕ → Span → List ℕ
+partOf f s = take (s .len) (drop (s .from) f)
+
+abbrev pub spanOf : Header → Piece → Span
+spanOf h Title = h .title
+spanOf h Author = h .author
+spanOf h Released = h .released
+spanOf h Payload = h .payload
+
+abbrev pub pieceOf : Outcome Header → List ℕ → Piece → List ℕ
+pieceOf (accepted h) f piece = partOf f (spanOf h piece)
+pieceOf (refused n place) f piece = []
+
+unfoldable pub pieceIn : List ℕ → Piece → List ℕ
+pieceIn f piece = pieceOf (sidOutcome f) f piece
+
+abbrev pub titleIn : List ℕ → List ℕ
+titleIn f = pieceIn f Title
+
+abbrev pub authorIn : List ℕ → List ℕ
+authorIn f = pieceIn f Author
+
+abbrev pub releasedIn : List ℕ → List ℕ
+releasedIn f = pieceIn f Released
+
+abbrev pub payloadIn : List ℕ → List ℕ
+payloadIn f = pieceIn f Payload

@@ -1,0 +1,162 @@
+// PSID and RSID files, versions 1 and 2: read, loaded into memory, and shown in parts. Every call answers for every file and
+// every number; none has a requires.
+ghost use mathlib.Core.Path.{_≡_};
+ghost use lib.ListN.{length};
+ghost use Rattle.sid.specs.Answers.{told, sidOutcome};
+ghost use Rattle.sid.specs.Loading.{loadOutcome, memoryAfter};
+ghost use Rattle.sid.specs.Speed.{toldSpeed, speedOutcome};
+ghost use Rattle.sid.specs.Pieces.{partOf, titleIn, authorIn, releasedIn, payloadIn};
+use refusals::Refusal;
+use refusals::Verdict;
+
+mod accepted;
+mod piece;
+mod song;
+
+// What the file's first four bytes say it is.
+pub enum Kind {
+    Psid,
+    Rsid,
+}
+
+// A part of the file: its first byte and how many.
+pub struct Span {
+    pub from: usize,
+    pub len: usize,
+}
+
+// What an accepted file says of itself. load and init are the effective addresses; start is the start song, 1 where the
+// file has 0; basic is flag bit 1 (BASIC in an RSID, PlaySID-specific in a PSID), clock bits 2-3, model bits 4-5; page
+// and pages are start page and page length.
+pub struct Header {
+    pub kind: Kind,
+    pub version: u16,
+    pub load: u16,
+    pub init: u16,
+    pub play: u16,
+    pub songs: u16,
+    pub start: u16,
+    pub speed: u32,
+    pub basic: bool,
+    pub clock: u16,
+    pub model: u16,
+    pub page: u16,
+    pub pages: u16,
+    pub title: Span,
+    pub author: Span,
+    pub released: Span,
+    pub payload: Span,
+}
+
+// The answer to a file.
+pub enum Reading {
+    Accepted(Header),
+    Refused(Refusal),
+}
+
+// The answer to a song's number: its bit of the speed field.
+pub enum SongSpeed {
+    Bit(u32),
+    Refused(Refusal),
+}
+
+// Reads a file: its header, or the first refusal that applies.
+pub fn read(file: &[u8]) -> Reading
+    ensures { λ r. ⌜ told r ≡ sidOutcome (now (file .entry)) ⌝ }
+{
+    let x = sidheader::read_fields(file);
+    let first = sidrefusals::test_header(x);
+    match first {
+        Verdict::Failed(number) => Reading::Refused(Refusal { number, place: 0 }),
+        Verdict::Passed => {
+            let p = sidheader::payload_of(file, x);
+            let second = sidrefusals::test_payload(x, p);
+            match second {
+                Verdict::Failed(number) => Reading::Refused(Refusal { number, place: 0 }),
+                Verdict::Passed => Reading::Accepted(accepted::header_of(file, x, p)),
+            }
+        }
+    }
+}
+
+// Loads a file: puts its payload into the 65,536 cells of memory, and nothing else. A refusal changes no cell.
+pub fn load(file: &[u8], memory: &mut [u8]) -> Reading
+    ensures answer { λ r. ⌜ told r ≡ loadOutcome (now (file .entry)) (length (now (memory .entry))) ⌝ }
+    ensures cells { λ _. ⌜ now (memory .exit) ≡ memoryAfter (now (file .entry)) (now (memory .entry)) ⌝ }
+{
+    if memory.len() != 65536 {
+        return Reading::Refused(Refusal {
+            number: refusals::MEMORY_SIZE,
+            place: 0,
+        });
+    }
+    let answer = read(file);
+    match answer {
+        Reading::Refused(x) => Reading::Refused(x),
+        Reading::Accepted(h) => {
+            let from = h.payload.from;
+            let len = h.payload.len;
+            let at = h.load as usize;
+            fields::copy_to(fields::part(file, from, len), memory, at);
+            Reading::Accepted(h)
+        }
+    }
+}
+
+// The speed bit of a song, counted from 1.
+pub fn speed_of_song(file: &[u8], song: u64) -> SongSpeed
+    ensures { λ r. ⌜ toldSpeed r ≡ speedOutcome (now (file .entry)) song ⌝ }
+{
+    let answer = read(file);
+    match answer {
+        Reading::Refused(x) => SongSpeed::Refused(x),
+        Reading::Accepted(h) => {
+            let songs = h.songs as u64;
+            if (song == 0) | (songs < song) {
+                SongSpeed::Refused(Refusal {
+                    number: refusals::NO_SUCH_SONG,
+                    place: 0,
+                })
+            } else {
+                SongSpeed::Bit(song::speed_bit(h.speed, song))
+            }
+        }
+    }
+}
+
+// The bytes of a file that a span names; of them those that lie in the file.
+pub fn part(file: &[u8], span: Span) -> &[u8]
+    ensures { λ r. ⌜ now r ≡ partOf (now (file .entry)) span ⌝ }
+{
+    let from = span.from;
+    let len = span.len;
+    fields::part(file, from, len)
+}
+
+// The title of an accepted file; of a refused file nothing.
+pub fn title(file: &[u8]) -> &[u8]
+    ensures { λ r. ⌜ now r ≡ titleIn (now (file .entry)) ⌝ }
+{
+    piece::piece_of(file, piece::Piece::Title)
+}
+
+// The author's name in an accepted file; of a refused file nothing.
+pub fn author(file: &[u8]) -> &[u8]
+    ensures { λ r. ⌜ now r ≡ authorIn (now (file .entry)) ⌝ }
+{
+    piece::piece_of(file, piece::Piece::Author)
+}
+
+// The released text of an accepted file; of a refused file nothing.
+pub fn released(file: &[u8]) -> &[u8]
+    ensures { λ r. ⌜ now r ≡ releasedIn (now (file .entry)) ⌝ }
+{
+    piece::piece_of(file, piece::Piece::Released)
+}
+
+// The payload of an accepted file, without the two address bytes; of a refused file nothing.
+pub fn payload(file: &[u8]) -> &[u8]
+    ensures { λ r. ⌜ now r ≡ payloadIn (now (file .entry)) ⌝ }
+{
+    piece::piece_of(file, piece::Piece::Payload)
+}

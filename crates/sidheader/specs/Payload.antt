@@ -1,0 +1,24 @@
+-- Document 01, 'PSID and RSID', test 9: 'With load field 0 the first two data bytes, low byte first, are the load address and the
+-- payload follows them.' With another load field the data are the payload.
+-- addressed   the data begin with their own load address
+-- payloadOf   the payload's address, and its first byte and length in the file
+use Prim.Native.Nat.{ℕ, _+_, _-_}
+use mathlib.Core.Bool.{Bool}
+use mathlib.Core.List.{List}
+use lib.Dec.{eqb}
+use Rattle.refusals.specs.Tests.{pick}
+use Rattle.fields.specs.Numbers.{le16}
+use Rattle.sidheader.specs.declared.Fields.{Fields}
+use Rattle.sidheader.specs.declared.Payload.{Payload}
+
+abbrev pub addressed : Fields → Bool
+addressed x = eqb (x .load) 0
+
+abbrev pub after : List ℕ → Fields → Payload
+after f x = record { load = le16 f (x .offset); from = x .offset + 2; len = x .size - (x .offset + 2) }
+
+abbrev pub whole : Fields → Payload
+whole x = record { load = x .load; from = x .offset; len = x .size - x .offset }
+
+unfoldable pub payloadOf : List ℕ → Fields → Payload
+payloadOf f x = pick (addressed x) (after f x) (whole x)

@@ -1,0 +1,94 @@
+-- What is said of some page of a range, told by the ends of ranges. Assumes nothing.
+-- Some, any-true, true-any   some page passes a test exactly when there is such a page
+-- any-between                two ranges have a page in common
+-- any-or, any-and            one of two tests passes; a test beside a fact
+-- any-taken                  a page of a range, or for RSID a reserved one
+use Prim.Native.Nat.{ℕ, zero, suc, _+_, _<_, _≤_, max}
+use mathlib.Core.Path.{_≡_, refl, sym, _∙_}
+use mathlib.Core.Bool.{Bool, true, false, not, _&&_, _||_, false≢true, or-true}
+use native.Mathlib.Omega.{arith}
+use lib.Dec.{ltb, leb, eqb}
+use borrow.Author.Tests.{ltb-true, leb-true, eqb-true, eqb-false, not-true, lt-ltb, le-leb, ne-eqb}
+use Rattle.sidrefusals.specs.Pages.{anyPage, between, reservedPage}
+use Rattle.sidrefusals.proofs.Tests.{same, both, both-left, both-right}
+
+-- a page of the count from start on that passes t
+pub record Some (start count : ℕ) (t : ℕ → Bool) : Type 0 where
+  pub page : ℕ
+  pub low : start ≤ page
+  pub high : page < start + count
+  pub passes : t page ≡ true
+
+pub any-true : (start count : ℕ) (t : ℕ → Bool) → anyPage start count t ≡ true → Some start count t
+unfolding anyPage
+any-true start zero t e = absurd (false≢true e)
+any-true start (suc count) t e = go (t start) refl (any-true (start + 1) count t) e
+  where
+    go : (b : Bool) → t start ≡ b → (anyPage (start + 1) count t ≡ true → Some (start + 1) count t) → b || anyPage (start + 1) count t ≡ true → Some start (suc count) t
+    go true p rest q = record { page = start; low = omega arith; high = omega arith; passes = p }
+    go false p rest q =
+        let s = rest q in
+        record { page = s .page; low = omega (arith, s .low); high = omega (arith, s .high); passes = s .passes }
+
+pub true-any : (start count : ℕ) (t : ℕ → Bool) (n : ℕ) → start ≤ n → n < start + count → t n ≡ true → anyPage start count t ≡ true
+unfolding anyPage
+true-any start zero t n l h p = absurd (omega arith)
+true-any start (suc count) t n l h p = go (eqb n start) refl (true-any (start + 1) count t n)
+  where
+    go : (b : Bool) → eqb n start ≡ b → (start + 1 ≤ n → n < start + 1 + count → t n ≡ true → anyPage (start + 1) count t ≡ true) → t start || anyPage (start + 1) count t ≡ true
+    go true e rest = rw (← eqb-true n start e, p)
+    go false e rest =
+        let apart = eqb-false n start e in
+        rw (rest (omega arith) (omega arith) p) (or-true (t start))
+
+pub any-between : (start count first last : ℕ)
+    → not (eqb count 0) && leb first last && leb start last && ltb first (start + count) ≡ anyPage start count (between first last)
+any-between start count first last = same _ _ there back
+  where
+    there : not (eqb count 0) && leb first last && leb start last && ltb first (start + count) ≡ true → anyPage start count (between first last) ≡ true
+    there e =
+        let e₂ = both-left (not (eqb count 0) && leb first last && leb start last) (ltb first (start + count)) e in
+        let e₁ = both-left (not (eqb count 0) && leb first last) (leb start last) e₂ in
+        let some = eqb-false count 0 (not-true (eqb count 0) (both-left (not (eqb count 0)) (leb first last) e₁)) in
+        let order = leb-true first last (both-right (not (eqb count 0)) (leb first last) e₁) in
+        let reach = leb-true start last (both-right (not (eqb count 0) && leb first last) (leb start last) e₂) in
+        let past = ltb-true first (start + count) (both-right (not (eqb count 0) && leb first last && leb start last) (ltb first (start + count)) e) in
+        true-any start count (between first last) (max start first) (omega arith) (omega arith)
+        (both (le-leb first (max start first) (omega arith)) (le-leb (max start first) last (omega arith)))
+
+    back : anyPage start count (between first last) ≡ true → not (eqb count 0) && leb first last && leb start last && ltb first (start + count) ≡ true
+    back e =
+        let s = any-true start count (between first last) e in
+        let low = leb-true first (s .page) (both-left (leb first (s .page)) (leb (s .page) last) (s .passes)) in
+        let high = leb-true (s .page) last (both-right (leb first (s .page)) (leb (s .page) last) (s .passes)) in
+        let none : count ≡ 0 → ⊥ = omega (arith, s .low, s .high) in
+        let some : not (eqb count 0) ≡ true = rw (ne-eqb count 0 none) in
+        both (both (both some (le-leb first last (omega arith))) (le-leb start last (omega (arith, s .low))))
+        (lt-ltb first (start + count) (omega (arith, s .high)))
+
+exchange : (a b c d : Bool) → a || b || (c || d) ≡ a || c || (b || d)
+exchange true b c d = refl
+exchange false true true d = refl
+exchange false true false d = refl
+exchange false false c d = refl
+
+pub any-or : (start count : ℕ) (t u : ℕ → Bool) → anyPage start count (λ n. t n || u n) ≡ anyPage start count t || anyPage start count u
+unfolding anyPage
+any-or start zero t u = refl
+any-or start (suc count) t u = rw (any-or (start + 1) count t u) (exchange (t start) (u start) (anyPage (start + 1) count t) (anyPage (start + 1) count u))
+
+any-never : (start count : ℕ) → anyPage start count (λ n. false) ≡ false
+unfolding anyPage
+any-never start zero = refl
+any-never start (suc count) = any-never (start + 1) count
+
+pub any-and : (start count : ℕ) (b : Bool) (t : ℕ → Bool) → anyPage start count (λ n. b && t n) ≡ b && anyPage start count t
+any-and start count true t = refl
+any-and start count false t = any-never start count
+
+pub any-taken : (start count : ℕ) (t : ℕ → Bool) (rsid : Bool)
+    → anyPage start count (λ n. t n || rsid && reservedPage n)
+    ≡ anyPage start count t || rsid && (anyPage start count (between 0x00 0x03) || anyPage start count (between 0xA0 0xBF) || anyPage start count (between 0xD0 0xFF))
+any-taken start count t rsid =
+    any-or start count t (λ n. rsid && reservedPage n)
+    ∙ rw (any-and start count rsid reservedPage, any-or start count (λ n. between 0x00 0x03 n || between 0xA0 0xBF n) (between 0xD0 0xFF), any-or start count (between 0x00 0x03) (between 0xA0 0xBF))

@@ -1,0 +1,39 @@
+-- Two tests are the same where each holds if the other does. Assumes nothing.
+-- same                    the law
+-- both, -left, -right     what `&&` holds of
+-- few-after, none-after   how many bytes lie past a place, without a difference
+use Prim.Native.Nat.{ℕ, _+_, _-_, _<_, _≤_}
+use mathlib.Core.Path.{_≡_, refl, sym}
+use mathlib.Core.Bool.{Bool, true, false, _&&_}
+use native.Mathlib.Omega.{arith}
+use lib.Dec.{ltb, leb, eqb}
+use borrow.Author.Tests.{ltb-true, leb-true, eqb-true, lt-ltb, le-leb, eq-eqb}
+
+pub same : (a b : Bool) → (a ≡ true → b ≡ true) → (b ≡ true → a ≡ true) → a ≡ b
+same true true f g = refl
+same true false f g = sym (f refl)
+same false true f g = g refl
+same false false f g = refl
+
+pub both : {a b : Bool} → a ≡ true → b ≡ true → a && b ≡ true
+both p q = rw (p, q)
+
+pub both-left : (a b : Bool) → a && b ≡ true → a ≡ true
+both-left true b e = refl
+both-left false b e = e
+
+pub both-right : (a b : Bool) → a && b ≡ true → b ≡ true
+both-right true b e = e
+both-right false true e = refl
+both-right false false e = e
+
+module _ (size m : ℕ) where
+  pub few-after : (n : ℕ) → 0 < n → ltb (size - m) n ≡ ltb size (m + n)
+  few-after n h = same (ltb (size - m) n) (ltb size (m + n))
+      (λ e. let p = ltb-true (size - m) n e in lt-ltb size (m + n) (omega arith))
+      (λ e. let p = ltb-true size (m + n) e in lt-ltb (size - m) n (omega arith))
+
+  pub none-after : eqb (size - m) 0 ≡ leb size m
+  none-after = same (eqb (size - m) 0) (leb size m)
+      (λ e. let p = eqb-true (size - m) 0 e in le-leb size m (omega arith))
+      (λ e. let p = leb-true size m e in eq-eqb (size - m) 0 (omega arith))

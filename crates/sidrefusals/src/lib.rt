@@ -1,0 +1,123 @@
+// Refusals 1 to 13: the tests of a PSID or RSID file, in the paper's order. The functions are for crates of ours.
+ghost use mathlib.Core.Path.{_≡_};
+ghost use Prim.Native.Nat.{_+_, _-_, _/_, _^_, _<_};
+ghost use Rattle.refusals.specs.Tests.{firstOf};
+ghost use Rattle.sidrefusals.specs.HeaderTests.{headerTests};
+ghost use Rattle.sidrefusals.specs.Pages.{anyPage, between, badPages};
+ghost use Rattle.sidrefusals.specs.PayloadTests.{initOf, barredInit, payloadTests};
+use refusals::Verdict;
+use sidheader::Fields;
+use sidheader::Payload;
+
+const PSID: u32 = 0x50534944;
+
+const RSID: u32 = 0x52534944;
+
+// internal: the tests of the header's fields, 1 to 8.
+pub fn test_header(x: Fields) -> Verdict
+    ensures { λ r. ⌜ r ≡ firstOf (headerTests x) ⌝ }
+{
+    let psid = x.magic == PSID;
+    let rsid = x.magic == RSID;
+    let one = x.version == 1;
+    let two = x.version == 2;
+    let reserved = (x.load != 0) | (x.play != 0) | (x.speed != 0);
+    let songs = (x.songs == 0) | (256 < x.songs) | (x.songs < x.start);
+    Verdict::Passed
+        .test(x.size < 118, refusals::TOO_SHORT)
+        .test(!psid & !rsid, refusals::MAGIC)
+        .test(!(one | two) | rsid & !two, refusals::VERSION)
+        .test(two & (x.size < 124), refusals::TOO_SHORT)
+        .test(
+            one & (x.offset != 0x76) | two & (x.offset != 0x7C),
+            refusals::DATA_OFFSET,
+        )
+        .test(rsid & reserved, refusals::RSID_RESERVED)
+        .test(songs, refusals::SONGS)
+        .test(
+            (x.flags / 64 != 0) | (x.reserved != 0),
+            refusals::RESERVED_BITS,
+        )
+        .test(x.flags % 2 == 1, refusals::MUS_PAYLOAD)
+}
+
+// internal: the effective init address.
+pub fn init_of(x: Fields, p: Payload) -> u16
+    ensures { λ r. ⌜ r ≡ initOf x p ⌝ }
+{
+    if x.init == 0 { p.load } else { x.init }
+}
+
+// An address at which the init of an RSID may not stand.
+fn is_barred_init(address: u16) -> bool
+    ensures { λ r. ⌜ r ≡ barredInit address ⌝ }
+{
+    let rom = (0xA000 <= address) & (address <= 0xBFFF);
+    let high = (0xD000 <= address) & (address <= 0xFFFF);
+    (address < 0x07E8) | rom | high
+}
+
+// Some page of the count from start on lies between first and last.
+fn meets(start: u16, count: u16, first: usize, last: usize) -> bool
+    ensures { λ r. ⌜ r ≡ anyPage start count (between first last) ⌝ }
+{
+    let from = start as usize;
+    let n = count as usize;
+    (n != 0) & (first <= last) & (from <= last) & (first < from + n)
+}
+
+// The page of the payload's last byte.
+fn last_page(load: usize, len: usize) -> usize
+    requires { ⌜ load + len < 2 ^ 64 ⌝ }
+    ensures { λ r. ⌜ r ≡ (load + len - 1) / 256 ⌝ }
+{
+    let end = load + len;
+    if end == 0 { 0 } else { (end - 1) / 256 }
+}
+
+// The stated free pages cannot be free.
+fn has_bad_pages(x: Fields, p: Payload) -> bool
+    requires { ⌜ p .len < 2 ^ 63 ⌝ }
+    ensures { λ r. ⌜ r ≡ badPages x p ⌝ }
+{
+    let start = x.page;
+    let count = x.pages;
+    let load = p.load as usize;
+    let last = last_page(load, p.len);
+    let touched = meets(start, count, load / 256, last);
+    let low = meets(start, count, 0x00, 0x03);
+    let rom = meets(start, count, 0xA0, 0xBF);
+    let high = meets(start, count, 0xD0, 0xFF);
+    let taken = touched | (x.magic == RSID) & (low | rom | high);
+    let unstated = (start == 0) | (start == 0xFF);
+    let over = 256 < start as usize + count as usize;
+    unstated & (count != 0) | !unstated & ((count == 0) | over | taken)
+}
+
+// internal: the tests of where the payload lies, 9 to 13.
+pub fn test_payload(x: Fields, p: Payload) -> Verdict
+    requires { ⌜ p .len < 2 ^ 63 ⌝ }
+    ensures { λ r. ⌜ r ≡ firstOf (payloadTests x p) ⌝ }
+{
+    let size = x.size;
+    let offset = x.offset as usize;
+    let load = p.load as usize;
+    let rsid = x.magic == RSID;
+    let own = x.load == 0;
+    let basic = x.flags / 2 % 2 == 1;
+    let init = init_of(x, p);
+    let barred = is_barred_init(init);
+    let pages = has_bad_pages(x, p);
+    Verdict::Passed
+        .test(
+            own & (size < offset + 3) | !own & (size <= offset),
+            refusals::NO_PAYLOAD,
+        )
+        .test(65536 < load + p.len, refusals::PAST_MEMORY)
+        .test(rsid & (load < 0x07E8), refusals::RSID_LOAD)
+        .test(
+            rsid & (basic & (x.init != 0) | !basic & barred),
+            refusals::RSID_INIT,
+        )
+        .test(pages, refusals::FREE_PAGES)
+}
