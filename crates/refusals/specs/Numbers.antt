@@ -1,7 +1,9 @@
 -- Document 01, 'What comes back': the number of each refusal by name, and what a call comes back with.
 -- Reason, numberOf   the table: why a call refuses, and its number
+-- unplaced           a refusal with no place of its own: 'The place is 0 except for 27 to 33 in a file'
 -- Outcome            a call's result as the paper has it: a value, or a refusal's number and place
 use Prim.Native.Nat.{ℕ}
+use Rattle.refusals.specs.declared.Refusal.{Refusal}
 
 pub data Reason : Type 0 where
   tooShort magic version dataOffset rsidReserved songs reservedBits musPayload noPayload pastMemory rsidLoad rsidInit freePages : Reason
@@ -23,6 +25,9 @@ numberOf rsidInit = 12
 numberOf freePages = 13
 numberOf memorySize = 40
 numberOf noSuchSong = 44
+
+abbrev pub unplaced : ℕ → Refusal
+unplaced n = record { number = n; place = 0 }
 
 pub data Outcome (A : Type 0) : Type 0 where
   accepted : A → Outcome A

@@ -1,6 +1,7 @@
 // What a refused call answers: the numbers of document 01's table 'What comes back' by name, a refusal with its place,
 // and the verdict of tests made in order.
 ghost use mathlib.Core.Path.{_≡_};
+ghost use Rattle.refusals.specs.Numbers.{unplaced};
 ghost use Rattle.refusals.specs.Tests.{tested};
 
 // PSID and RSID
@@ -38,6 +39,15 @@ pub const NO_SUCH_SONG: u32 = 44;
 pub struct Refusal {
     pub number: u32,
     pub place: usize,
+}
+
+impl Refusal {
+    // A refusal with no place of its own.
+    pub fn unplaced(number: u32) -> Refusal
+        ensures { λ r. ⌜ r ≡ unplaced number ⌝ }
+    {
+        Refusal { number, place: 0 }
+    }
 }
 
 // What tests made in order come to: none has applied, or the number of the first that did.

@@ -1,17 +1,17 @@
 -- What each way through a call comes to. Assumes nothing.
--- header-failed, payload-failed, all-passed   reading, by the verdicts of its two lists of tests
+-- too-short, header-failed, payload-failed, all-passed   reading, by the verdicts of its two lists of tests
 -- payload-short                               the payload is no longer than the file
 -- wrong-size, load-refused, load-fits, loaded loading, by the size of memory and by the reading
 -- song-refused, no-song, song-bit             a song's speed
 -- piece-refused, piece-accepted               a part of the file
-use Prim.Native.Nat.{ℕ, _+_, _≤_}
+use Prim.Native.Nat.{ℕ, _+_, _<_, _≤_}
 use mathlib.Core.Path.{_≡_, sym}
 use mathlib.Core.Bool.{Bool, true, false, _||_}
 use mathlib.Core.List.{List, []}
 use native.Mathlib.Omega.{arith}
 use lib.ListN.{length, drop, length-take}
 use lib.Dec.{ltb, eqb}
-use borrow.Author.Tests.{eq-eqb, ne-eqb}
+use borrow.Author.Tests.{lt-ltb, eq-eqb, ne-eqb}
 use Rattle.refusals.specs.Numbers.Outcome.{accepted, refused}
 use Rattle.refusals.specs.declared.Verdict.the-variants.{Passed, Failed}
 use Rattle.refusals.specs.Tests.{firstOf, guarded, pick}
@@ -31,6 +31,10 @@ use Rattle.sid.specs.Loading.{loadOutcome, memoryAfter}
 use Rattle.sid.specs.Speed.{speedBit, speedOutcome}
 use Rattle.sid.specs.Pieces.{partOf, spanOf, pieceIn}
 use Rattle.sid.specs.Laws.{accepted-fits}
+
+pub too-short : (f : List ℕ) → length f < 118 → refused 1 0 ≡ sidOutcome f
+unfolding sidOutcome sidTests fieldsOf
+too-short f h = rw (lt-ltb (length f) 118 h)
 
 module _ (f : List ℕ) (x : Fields) (p : Payload) (ex : x ≡ fieldsOf f) (ep : p ≡ payloadOf f x) where
   -- reading, by its two lists of tests

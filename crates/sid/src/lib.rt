@@ -64,15 +64,19 @@ pub enum SongSpeed {
 pub fn read(file: &[u8]) -> Reading
     ensures { λ r. ⌜ told r ≡ sidOutcome (now (file .entry)) ⌝ }
 {
+    // the first test by itself: past it the compiler knows that the header is there, and leaves out a check at each byte
+    if file.len() < 118 {
+        return Reading::Refused(Refusal::unplaced(refusals::TOO_SHORT));
+    }
     let x = sidheader::read_fields(file);
     let first = sidrefusals::test_header(x);
     match first {
-        Verdict::Failed(number) => Reading::Refused(Refusal { number, place: 0 }),
+        Verdict::Failed(number) => Reading::Refused(Refusal::unplaced(number)),
         Verdict::Passed => {
             let p = sidheader::payload_of(file, x);
             let second = sidrefusals::test_payload(x, p);
             match second {
-                Verdict::Failed(number) => Reading::Refused(Refusal { number, place: 0 }),
+                Verdict::Failed(number) => Reading::Refused(Refusal::unplaced(number)),
                 Verdict::Passed => Reading::Accepted(accepted::header_of(file, x, p)),
             }
         }
@@ -85,10 +89,7 @@ pub fn load(file: &[u8], memory: &mut [u8]) -> Reading
     ensures cells { λ _. ⌜ now (memory .exit) ≡ memoryAfter (now (file .entry)) (now (memory .entry)) ⌝ }
 {
     if memory.len() != 65536 {
-        return Reading::Refused(Refusal {
-            number: refusals::MEMORY_SIZE,
-            place: 0,
-        });
+        return Reading::Refused(Refusal::unplaced(refusals::MEMORY_SIZE));
     }
     let answer = read(file);
     match answer {
@@ -113,10 +114,7 @@ pub fn speed_of_song(file: &[u8], song: u64) -> SongSpeed
         Reading::Accepted(h) => {
             let songs = h.songs as u64;
             if (song == 0) | (songs < song) {
-                SongSpeed::Refused(Refusal {
-                    number: refusals::NO_SUCH_SONG,
-                    place: 0,
-                })
+                SongSpeed::Refused(Refusal::unplaced(refusals::NO_SUCH_SONG))
             } else {
                 SongSpeed::Bit(song::speed_bit(h.speed, song))
             }

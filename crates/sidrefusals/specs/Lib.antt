@@ -1,3 +1,4 @@
 pub mod HeaderTests
 pub mod Pages
 pub mod PayloadTests
+pub mod Starred

@@ -36,14 +36,24 @@ loop-less : tie.Need-loop-less Inv-loop μ-loop
 loop-less c = omega arith
 
 loop-again : tie.Need-loop-again Inv-loop μ-loop
-loop-again c = let a = c .before .before .before .args in let l = c .before .before .loop in (omega arith, rw (add-one, l .inv .1) (paste-suc (now (a .memory)) (a .at) (now (a .src)) (l .j) 0 (omega arith) (omega arith)), simp length-set (l .inv .2))
+loop-again c =
+    let a = c .before .before .before .args in
+    let l = c .before .before .loop in (
+      omega arith,
+      rw (add-one, l .inv .1) (paste-suc (now (a .memory)) (a .at) (now (a .src)) (l .j) 0 (omega arith) (omega arith)),
+      simp length-set (l .inv .2),
+    )
 
 same-length : tie.Need-same-length Inv-loop μ-loop
 same-length c = c .before .loop .inv .2
 
 returns : tie.Need-returns Inv-loop μ-loop
 unfolding put
-returns c = let s = now (c .before .before .args .src) in let l = c .before .loop in let e : l .j ≡ length s = omega arith in rw (l .inv .1, e, take-all (length s) s (le-refl _))
+returns c =
+    let s = now (c .before .before .args .src) in
+    let l = c .before .loop in
+    let e : l .j ≡ length s = omega arith in
+    rw (l .inv .1, e, take-all (length s) s (le-refl _))
 
 pub copy-to-spec : {M : Type 1} → statement M
 copy-to-spec =

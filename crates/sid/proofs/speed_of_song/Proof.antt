@@ -19,17 +19,29 @@ enum-known-answer-2 c = search needs
 cast-songs : tie.Need-cast-songs
 cast-songs c = search needs
 
+unplaced-requires : tie.Need-unplaced-requires
+unplaced-requires c κs = search needs
+
 speed-bit-requires : tie.Need-speed-bit-requires
 speed-bit-requires c κs = search needs
 
 returns : tie.Need-returns
-returns c = song-refused (now (c .before .before .before .before .before .args .file)) (c .before .before .before .before .before .args .song) _ _ (sym (ap told (c .before .answer .given .1)) ∙ c .before .before .before .read .ensures)
+returns c =
+    let a = c .before .before .before .before .before .args in
+    let read = c .before .before .before .read in
+    song-refused (now (a .file)) (a .song) _ _ (sym (ap told (c .before .answer .given .1)) ∙ read .ensures)
 
 returns-2 : tie.Need-returns-2
-returns-2 c = no-song (now (c .before .before .before .before .before .before .before .args .file)) (c .before .before .before .before .before .before .before .args .song) _ (sym (ap told (c .before .before .before .answer2 .given .1)) ∙ c .before .before .before .before .before .read .ensures) (c .if1 .taken)
+returns-2 c =
+    let a = c .before .before .before .before .before .before .before .before .args in
+    let read = c .before .before .before .before .before .before .read in
+    rw (c .unplaced .ensures) (no-song (now (a .file)) (a .song) _ (sym (ap told (c .before .before .before .before .answer2 .given .1)) ∙ read .ensures) (c .before .if1 .taken))
 
 returns-3 : tie.Need-returns-3
-returns-3 c = song-bit (now (c .before .before .before .before .before .before .before .before .args .file)) (c .before .before .before .before .before .before .before .before .args .song) _ _ (sym (ap told (c .before .before .before .before .answer2 .given .1)) ∙ c .before .before .before .before .before .before .read .ensures) (c .before .if1 .left) (c .speed-bit .ensures)
+returns-3 c =
+    let a = c .before .before .before .before .before .before .before .before .args in
+    let read = c .before .before .before .before .before .before .read in
+    song-bit (now (a .file)) (a .song) _ _ (sym (ap told (c .before .before .before .before .answer2 .given .1)) ∙ read .ensures) (c .before .if1 .left) (c .speed-bit .ensures)
 
 pub speed-of-song-spec : {M : Type 1} → statement M
 speed-of-song-spec =
@@ -39,6 +51,7 @@ speed-of-song-spec =
     enum-known-answer
     enum-known-answer-2
     cast-songs
+    unplaced-requires
     speed-bit-requires
     returns
     returns-2

@@ -63,7 +63,26 @@ added-field-requires-4 c κs = search needs
 
 returns : tie.Need-returns
 unfolding fieldsOf
-returns c = rw (c .added-field4 .ensures, c .before .added-field3 .ensures, c .before .before .added-field2 .ensures, c .before .before .before .added-field .ensures, c .before .before .before .before .be169 .ensures, c .before .before .before .before .before .byte-at2 .ensures, c .before .before .before .before .before .before .byte-at .ensures, c .before .before .before .before .before .before .before .be168 .ensures, c .before .before .before .before .before .before .before .before .be322 .ensures, c .before .before .before .before .before .before .before .before .before .be167 .ensures, c .before .before .before .before .before .before .before .before .before .before .be166 .ensures, c .before .before .before .before .before .before .before .before .before .before .before .be165 .ensures, c .before .before .before .before .before .before .before .before .before .before .before .before .be164 .ensures, c .before .before .before .before .before .before .before .before .before .before .before .before .before .be163 .ensures, c .before .before .before .before .before .before .before .before .before .before .before .before .before .before .be162 .ensures, c .before .before .before .before .before .before .before .before .before .before .before .before .before .before .before .be16 .ensures, c .before .before .before .before .before .before .before .before .before .before .before .before .before .before .before .before .be32 .ensures)
+returns c =
+    rw (
+      c .added-field4 .ensures,
+      c .before .added-field3 .ensures,
+      c .before .before .added-field2 .ensures,
+      c .before .before .before .added-field .ensures,
+      c .before .before .before .before .be169 .ensures,
+      c .before .before .before .before .before .byte-at2 .ensures,
+      c .before .before .before .before .before .before .byte-at .ensures,
+      c .before .before .before .before .before .before .before .be168 .ensures,
+      c .before .before .before .before .before .before .before .before .be322 .ensures,
+      c .before .before .before .before .before .before .before .before .before .be167 .ensures,
+      c .before .before .before .before .before .before .before .before .before .before .be166 .ensures,
+      c .before .before .before .before .before .before .before .before .before .before .before .be165 .ensures,
+      c .before .before .before .before .before .before .before .before .before .before .before .before .be164 .ensures,
+      c .before .before .before .before .before .before .before .before .before .before .before .before .before .be163 .ensures,
+      c .before .before .before .before .before .before .before .before .before .before .before .before .before .before .be162 .ensures,
+      c .before .before .before .before .before .before .before .before .before .before .before .before .before .before .before .be16 .ensures,
+      c .before .before .before .before .before .before .before .before .before .before .before .before .before .before .before .before .be32 .ensures,
+    )
 
 pub read-fields-spec : {M : Type 1} → statement M
 read-fields-spec =

@@ -35,7 +35,16 @@ add-over c = search needs
 
 returns : tie.Need-returns
 unfolding badPages
-returns c = let a = c .before .before .before .before .before .before .before .args in rw (any-taken (a .x .page) (a .x .pages) (touched (a .p)) (isRsid (a .x)), c .before .meets4 .ensures, c .before .before .meets3 .ensures, c .before .before .before .meets2 .ensures, c .before .before .before .before .meets .ensures, c .before .before .before .before .before .last-page .ensures)
+returns c =
+    let a = c .before .before .before .before .before .before .before .args in
+    rw (
+      any-taken (a .x .page) (a .x .pages) (touched (a .p)) (isRsid (a .x)),
+      c .before .meets4 .ensures,
+      c .before .before .meets3 .ensures,
+      c .before .before .before .meets2 .ensures,
+      c .before .before .before .before .meets .ensures,
+      c .before .before .before .before .before .last-page .ensures,
+    )
 
 pub has-bad-pages-spec : {M : Type 1} → statement M
 has-bad-pages-spec =

@@ -33,7 +33,18 @@ test-requires-9 : tie.Need-test-requires-9
 test-requires-9 c κs = search needs
 
 returns : tie.Need-returns
-returns c = rw (c .test9 .ensures, c .before .before .test8 .ensures, c .before .before .before .before .before .test7 .ensures, c .before .before .before .before .before .before .test6 .ensures, c .before .before .before .before .before .before .before .test5 .ensures, c .before .before .before .before .before .before .before .before .before .before .test4 .ensures, c .before .before .before .before .before .before .before .before .before .before .before .before .test3 .ensures, c .before .before .before .before .before .before .before .before .before .before .before .before .before .test2 .ensures, c .before .before .before .before .before .before .before .before .before .before .before .before .before .before .test .ensures) (tested-first (headerTests (c .before .before .before .before .before .before .before .before .before .before .before .before .before .before .before .before .before .before .before .before .before .before .before .before .before .before .args .x)))
+returns c =
+    rw (
+      c .test9 .ensures,
+      c .before .before .test8 .ensures,
+      c .before .before .before .before .before .test7 .ensures,
+      c .before .before .before .before .before .before .test6 .ensures,
+      c .before .before .before .before .before .before .before .test5 .ensures,
+      c .before .before .before .before .before .before .before .before .before .before .test4 .ensures,
+      c .before .before .before .before .before .before .before .before .before .before .before .before .test3 .ensures,
+      c .before .before .before .before .before .before .before .before .before .before .before .before .before .test2 .ensures,
+      c .before .before .before .before .before .before .before .before .before .before .before .before .before .before .test .ensures,
+    ) (tested-first (headerTests (c .before .before .before .before .before .before .before .before .before .before .before .before .before .before .before .before .before .before .before .before .before .before .before .before .before .before .args .x)))
 
 pub test-header-spec : {M : Type 1} → statement M
 test-header-spec =

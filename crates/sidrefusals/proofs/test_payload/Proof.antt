@@ -44,7 +44,20 @@ test-requires-5 : tie.Need-test-requires-5
 test-requires-5 c κs = search needs
 
 returns : tie.Need-returns
-returns c = let x = c .before .before .before .before .before .before .before .before .before .before .before .before .before .before .before .args .x in rw (c .test5 .ensures, c .before .test4 .ensures, c .before .before .before .test3 .ensures, c .before .before .before .before .test2 .ensures, c .before .before .before .before .before .before .test .ensures, c .before .before .before .before .before .before .before .has-bad-pages .ensures, c .before .before .before .before .before .before .before .before .is-barred-init .ensures, c .before .before .before .before .before .before .before .before .before .init-of .ensures, ← few-after (x .size) (x .offset) 3 (lit< tt), ← none-after (x .size) (x .offset)) (tested-first (payloadTests x (c .before .before .before .before .before .before .before .before .before .before .before .before .before .before .before .args .p)))
+returns c =
+    let x = c .before .before .before .before .before .before .before .before .before .before .before .before .before .before .before .args .x in
+    rw (
+      c .test5 .ensures,
+      c .before .test4 .ensures,
+      c .before .before .before .test3 .ensures,
+      c .before .before .before .before .test2 .ensures,
+      c .before .before .before .before .before .before .test .ensures,
+      c .before .before .before .before .before .before .before .has-bad-pages .ensures,
+      c .before .before .before .before .before .before .before .before .is-barred-init .ensures,
+      c .before .before .before .before .before .before .before .before .before .init-of .ensures,
+      ← few-after (x .size) (x .offset) 3 (lit< tt),
+      ← none-after (x .size) (x .offset),
+    ) (tested-first (payloadTests x (c .before .before .before .before .before .before .before .before .before .before .before .before .before .before .before .args .p)))
 
 pub test-payload-spec : {M : Type 1} → statement M
 test-payload-spec =

@@ -24,7 +24,15 @@ text-at-requires-3 c κs = search needs
 
 returns : tie.Need-returns
 unfolding headerOf
-returns c = rw (c .text-at3 .ensures, c .before .text-at2 .ensures, c .before .before .text-at .ensures, c .before .before .before .start-of .ensures, c .before .before .before .before .init-of .ensures, c .before .before .before .before .before .kind-of .ensures)
+returns c =
+    rw (
+      c .text-at3 .ensures,
+      c .before .text-at2 .ensures,
+      c .before .before .text-at .ensures,
+      c .before .before .before .start-of .ensures,
+      c .before .before .before .before .init-of .ensures,
+      c .before .before .before .before .before .kind-of .ensures,
+    )
 
 pub header-of-spec : {M : Type 1} → statement M
 header-of-spec =

@@ -26,10 +26,17 @@ part-requires : tie.Need-part-requires
 part-requires c κs = search needs
 
 returns : tie.Need-returns
-returns c = piece-refused (now (c .before .before .before .before .before .args .file)) (c .before .before .before .before .before .args .piece) _ _ (sym (ap told (c .before .enum-told .given .1)) ∙ c .before .before .before .read .ensures)
+returns c =
+    let a = c .before .before .before .before .before .args in
+    let read = c .before .before .before .read in
+    piece-refused (now (a .file)) (a .piece) _ _ (sym (ap told (c .before .enum-told .given .1)) ∙ read .ensures)
 
 returns-2 : tie.Need-returns-2
-returns-2 c = rw (c .part .ensures, c .before .span-of .ensures) (piece-accepted (now (c .before .before .before .before .before .before .before .args .file)) (c .before .before .before .before .before .before .before .args .piece) _ (sym (ap told (c .before .before .before .answer .given .1)) ∙ c .before .before .before .before .before .read .ensures))
+returns-2 c =
+    let a = c .before .before .before .before .before .before .before .args in
+    let read = c .before .before .before .before .before .read in
+    rw (c .part .ensures, c .before .span-of .ensures)
+    (piece-accepted (now (a .file)) (a .piece) _ (sym (ap told (c .before .before .before .answer .given .1)) ∙ read .ensures))
 
 pub piece-of-spec : {M : Type 1} → statement M
 piece-of-spec =

@@ -1,0 +1,133 @@
+-- A file longer than any that is accepted may be cut off: from 65,663 bytes on, the first of them give the answer of them all.
+-- So a program may read the first 66,000 bytes of its input and no more.
+-- cut-off   the law
+use Prim.Native.Nat.{ℕ, _+_, _-_, _<_, _≤_}
+use mathlib.Core.Path.{_≡_, refl, sym, _∙_}
+use mathlib.Core.Bool.{Bool, true, false, not, _&&_, _||_}
+use mathlib.Core.List.{List}
+use native.Mathlib.Omega.{arith}
+use lib.ListN.{length, take, getD}
+use lib.Seq.{length-take-le, getD-take}
+use lib.Dec.{ltb, eqb}
+use borrow.Author.Tests.{lt-ltb, le-ltb, ne-eqb, eqb-true}
+use Rattle.refusals.specs.Numbers.{Outcome}
+use Rattle.refusals.specs.Numbers.Outcome.{accepted}
+use Rattle.refusals.specs.declared.Verdict.{Verdict}
+use Rattle.refusals.specs.declared.Verdict.the-variants.{Passed, Failed}
+use Rattle.refusals.specs.Tests.{firstOf, pick, guarded}
+use Rattle.refusals.specs.Laws.{later, first-append, passed-none}
+use Rattle.fields.specs.Numbers.{be16, be32}
+use Rattle.sidheader.specs.declared.Fields.{Fields}
+use Rattle.sidheader.specs.Fields.{fieldsOf}
+use Rattle.sidheader.specs.Payload.{addressed, after, whole, payloadOf}
+use Rattle.sidrefusals.specs.HeaderTests.{one, two, isRsid, headerTests}
+use Rattle.sidrefusals.specs.PayloadTests.{payloadTests, sidTests}
+use Rattle.sid.specs.Answers.{sidOutcome}
+use Rattle.sid.specs.Laws.{header}
+
+-- the fields with another size
+abbrev resized : Fields → ℕ → Fields
+resized x n =
+    record {
+      size = n;
+      magic = x .magic;
+      version = x .version;
+      offset = x .offset;
+      load = x .load;
+      init = x .init;
+      play = x .play;
+      songs = x .songs;
+      start = x .start;
+      speed = x .speed;
+      flags = x .flags;
+      page = x .page;
+      pages = x .pages;
+      reserved = x .reserved;
+    }
+
+module _ (f : List ℕ) (n : ℕ) where
+  be16-take : (k : ℕ) → k + 1 < n → be16 (take n f) k ≡ be16 f k
+  unfolding be16
+  be16-take k h = let low : k < n = omega arith in rw (getD-take n f k 0 low, getD-take n f (k + 1) 0 h)
+
+  be32-take : (k : ℕ) → k + 3 < n → be32 (take n f) k ≡ be32 f k
+  unfolding be32
+  be32-take k h = rw (be16-take k (omega arith), be16-take (k + 2) (omega arith))
+
+  fields-take : 124 ≤ n → n ≤ length f → fieldsOf (take n f) ≡ resized (fieldsOf f) n
+  unfolding fieldsOf
+  fields-take h k =
+      rw (
+        length-take-le n f k,
+        be32-take 0x00 (omega arith),
+        be16-take 0x04 (omega arith),
+        be16-take 0x06 (omega arith),
+        be16-take 0x08 (omega arith),
+        be16-take 0x0A (omega arith),
+        be16-take 0x0C (omega arith),
+        be16-take 0x0E (omega arith),
+        be16-take 0x10 (omega arith),
+        be32-take 0x12 (omega arith),
+        be16-take 0x76 (omega arith),
+        getD-take n f 0x78 0 (omega arith),
+        getD-take n f 0x79 0 (omega arith),
+        be16-take 0x7A (omega arith),
+      )
+
+-- the header's tests look at the size only below 124 bytes
+header-resized : (x : Fields) (n : ℕ) → 124 ≤ n → 124 ≤ x .size → firstOf (headerTests (resized x n)) ≡ firstOf (headerTests x)
+header-resized x n h k = rw (le-ltb n 118 (omega arith), le-ltb n 124 h, le-ltb (x .size) 118 (omega arith), le-ltb (x .size) 124 k)
+
+-- a header that passes has its data offset at $76 or $7C
+offset-passed : (x : Fields) → firstOf (headerTests x) ≡ Passed → x .offset ≤ 124
+offset-passed x e =
+    let none = passed-none (headerTests x) e in
+    go (one x) (two x) (isRsid x) (eqb (x .offset) 0x76) refl (eqb (x .offset) 0x7C) refl (none .1 .1 .0) (none .1 .1 .1 .1 .0)
+  where
+    go : (v w r a : Bool) → eqb (x .offset) 0x76 ≡ a → (b : Bool) → eqb (x .offset) 0x7C ≡ b
+        → not (v || w) || r && not w ≡ false → v && not a || w && not b ≡ false → x .offset ≤ 124
+    go v w r true p b q s t = omega (arith, eqb-true (x .offset) 0x76 p)
+    go v w r false p true q s t = omega (arith, eqb-true (x .offset) 0x7C q)
+    go true w r false p false q s t = absurd (mathlib.Core.Bool.true≢false t)
+    go false true r false p false q s t = absurd (mathlib.Core.Bool.true≢false t)
+    go false false r false p false q s t = absurd (mathlib.Core.Bool.true≢false s)
+
+-- so long a file is past $FFFF wherever it is loaded
+too-long : (f : List ℕ) (x : Fields) → x .offset ≤ 124 → 65663 ≤ x .size → firstOf (payloadTests x (payloadOf f x)) ≡ Failed 10
+unfolding payloadOf
+too-long f x o h = go (addressed x) refl
+  where
+    go : (b : Bool) → addressed x ≡ b → firstOf (payloadTests x (pick b (after f x) (whole x))) ≡ Failed 10
+    go true e = rw (e, le-ltb (x .size - x .offset) 3 (omega arith), lt-ltb 65536 (after f x .load + (x .size - (x .offset + 2))) (omega arith))
+    go false e =
+        let some : x .size - x .offset ≡ 0 → ⊥ = omega arith in
+        rw (e, ne-eqb (x .size - x .offset) 0 some, lt-ltb 65536 (x .load + (x .size - x .offset)) (omega arith))
+
+-- reading, by the verdict on the header
+by-header : (f : List ℕ) (v : Verdict) → firstOf (headerTests (fieldsOf f)) ≡ v
+    → sidOutcome f ≡ guarded (later v (firstOf (payloadTests (fieldsOf f) (payloadOf f (fieldsOf f))))) (accepted (header f))
+unfolding sidOutcome sidTests
+by-header f v e = rw (first-append (headerTests (fieldsOf f)) (payloadTests (fieldsOf f) (payloadOf f (fieldsOf f))), e)
+
+-- a long file is refused by its header or with 10
+by-long : (f : List ℕ) (v : Verdict) → firstOf (headerTests (fieldsOf f)) ≡ v → 65663 ≤ fieldsOf f .size
+    → sidOutcome f ≡ guarded (later v (Failed 10)) (accepted (header f))
+by-long f Passed e h = by-header f Passed e ∙ rw (too-long f (fieldsOf f) (offset-passed (fieldsOf f) e) h)
+by-long f (Failed m) e h = by-header f (Failed m) e
+
+either : {A : Type 0} (v : Verdict) (a b : Outcome A) → guarded (later v (Failed 10)) a ≡ guarded (later v (Failed 10)) b
+either Passed a b = refl
+either (Failed m) a b = refl
+
+size-fields : (f : List ℕ) → fieldsOf f .size ≡ length f
+unfolding fieldsOf
+size-fields f = refl
+
+pub cut-off : (f : List ℕ) (n : ℕ) → 65663 ≤ n → n ≤ length f → sidOutcome (take n f) ≡ sidOutcome f
+cut-off f n h k =
+    let v = firstOf (headerTests (fieldsOf f)) in
+    let same = fields-take f n (omega arith) k in
+    let whole : 65663 ≤ fieldsOf f .size = rw (size-fields f) (omega arith) in
+    let part : 65663 ≤ fieldsOf (take n f) .size = rw same h in
+    let head : firstOf (headerTests (fieldsOf (take n f))) ≡ v = rw same (header-resized (fieldsOf f) n (omega arith) (omega arith)) in
+    by-long (take n f) v head part ∙ either v (accepted (header (take n f))) (accepted (header f)) ∙ sym (by-long f v refl whole)

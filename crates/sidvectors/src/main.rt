@@ -1,0 +1,198 @@
+// Runs the hand-made files of data/ through read, load and speed_of_song, and shows every answer. tools/sidvectors makes the
+// files and says what each must give.
+use libc::STDOUT_FILENO;
+use refusals::Refusal;
+use sid::Header;
+use sid::Kind;
+use sid::Reading;
+use sid::SongSpeed;
+use sid::Span;
+
+// What a cell of memory holds before a load; no payload has this byte.
+const EMPTY: u8 = 0xA5;
+
+// The cells that a load has changed: the first, how many, and the sum of what they hold.
+struct Cells {
+    first: usize,
+    count: usize,
+    sum: usize,
+}
+
+fn wide(x: u8) -> usize {
+    x as usize
+}
+
+fn changed(memory: &[u8]) -> Cells {
+    let mut first = 0;
+    let mut count: usize = 0;
+    let mut sum: usize = 0;
+    let mut i = memory.len();
+    while 0 < i {
+        i -= 1;
+        if memory[i] != EMPTY {
+            first = i;
+            count = std::num::wrapping_add_usize(count, 1);
+            sum = std::num::wrapping_add_usize(sum, wide(memory[i]));
+        }
+    }
+    Cells { first, count, sum }
+}
+
+fn write(text: &[u8]) {
+    io::write_all(STDOUT_FILENO, text);
+}
+
+// A word and a number, with a space before each.
+fn show(word: &[u8], n: usize) {
+    write(b" ");
+    write(word);
+    write(b" ");
+    io::print_decimal(STDOUT_FILENO, n as u64);
+}
+
+fn show_two(word: &[u8], a: usize, b: usize) {
+    show(word, a);
+    write(b" ");
+    io::print_decimal(STDOUT_FILENO, b as u64);
+}
+
+fn show_span(word: &[u8], span: Span) {
+    show_two(word, span.from, span.len);
+}
+
+fn show_refusal(x: Refusal) {
+    show_two(b"refused", x.number as usize, x.place);
+}
+
+fn show_cells(memory: &[u8]) {
+    let c = changed(memory);
+    show_two(b"cells", c.first, c.count);
+    write(b" ");
+    io::print_decimal(STDOUT_FILENO, c.sum as u64);
+    write(b"\n");
+}
+
+fn show_kind(kind: Kind) {
+    match kind {
+        Kind::Psid => write(b" accepted PSID"),
+        Kind::Rsid => write(b" accepted RSID"),
+    }
+}
+
+fn show_player(h: Header) {
+    let kind = h.kind;
+    show_kind(kind);
+    show(b"version", h.version as usize);
+    show(b"load", h.load as usize);
+    show(b"init", h.init as usize);
+    show(b"play", h.play as usize);
+    show(b"songs", h.songs as usize);
+    show(b"start", h.start as usize);
+    show(b"speed", h.speed as usize);
+}
+
+fn show_parts(h: Header) {
+    let page = h.page as usize;
+    let pages = h.pages as usize;
+    show(b"basic", h.basic as usize);
+    show(b"clock", h.clock as usize);
+    show(b"model", h.model as usize);
+    show_two(b"pages", page, pages);
+    show_span(b"title", h.title);
+    show_span(b"author", h.author);
+    show_span(b"released", h.released);
+    show_span(b"payload", h.payload);
+}
+
+fn show_reading(answer: Reading) {
+    match answer {
+        Reading::Accepted(h) => {
+            show_player(h);
+            show_parts(h);
+        }
+        Reading::Refused(x) => show_refusal(x),
+    }
+}
+
+// A line for a load into a memory that is not of 65,536 cells, or that is.
+fn load_line(name: &[u8], file: &[u8], memory: &mut [u8]) {
+    let answer = sid::load(file, memory);
+    write(name);
+    show(b"memory", memory.len());
+    match answer {
+        Reading::Accepted(_) => write(b" loaded"),
+        Reading::Refused(x) => show_refusal(x),
+    }
+    show_cells(memory);
+}
+
+fn show_song(file: &[u8], word: &[u8], song: u64) {
+    match sid::speed_of_song(file, song) {
+        SongSpeed::Bit(b) => show(word, b as usize),
+        SongSpeed::Refused(x) => show(word, x.number as usize),
+    }
+}
+
+// A line with the speed bits of songs, or the refusal's number.
+fn song_line(name: &[u8], file: &[u8], songs: u16) {
+    write(name);
+    show_song(file, b"song 0:", 0);
+    show_song(file, b"1:", 1);
+    show_song(file, b"2:", 2);
+    show_song(file, b"3:", 3);
+    show_song(file, b"31:", 31);
+    show_song(file, b"32:", 32);
+    show_song(file, b"33:", 33);
+    show_song(file, b"last:", songs as u64);
+    show_song(file, b"next:", songs as u64 + 1);
+    show_song(file, b"greatest:", u64::MAX);
+    write(b"\n");
+}
+
+// A file's answers. The first two files are also loaded into memories of other sizes.
+fn report(name: &[u8], file: &[u8], sizes: bool) {
+    let mut memory = [EMPTY; 65536];
+    let answer = sid::read(file);
+    write(name);
+    show_reading(answer);
+    write(b"\n");
+    load_line(name, file, &mut memory);
+    if sizes {
+        let mut none = [EMPTY; 0];
+        let mut less = [EMPTY; 65535];
+        let mut more = [EMPTY; 65537];
+        load_line(name, file, &mut none);
+        load_line(name, file, &mut less);
+        load_line(name, file, &mut more);
+    }
+    if let Reading::Accepted(h) = answer {
+        let songs = h.songs;
+        if 1 < songs {
+            song_line(name, file, songs);
+        }
+    }
+}
+
+// Reports the file that argument i names.
+fn report_argument(i: usize) {
+    let mut name = [0u8; 64];
+    let mut file = [0u8; 66000];
+    let n = os::arg(i, &mut name);
+    let fd = os::open_read(&name[..n]);
+    if fd < 0 {
+        os::fail(&name[..n]);
+        return;
+    }
+    let len = io::read_full(fd, &mut file);
+    libc::close(fd);
+    report(&name[..n], &file[..len], i <= 2);
+}
+
+fn main() {
+    let count = os::arg_count();
+    let mut i = 1;
+    while i < count {
+        report_argument(i);
+        i += 1;
+    }
+}
