@@ -1,5 +1,6 @@
 -- A file is accepted exactly when none of 1 to 13 applies to it. Laws of reading and of the parts of an accepted file.
 -- none-accepted, accepted-none   'accepted exactly when no listed refusal applies'
+-- told-once                      no two answers are told alike: an equation of `told` leaves the answer no freedom
 -- accepted-header                the header of an accepted file
 -- accepted-fits                  its payload lies within the 65,536 cells
 -- payload-whole                  its payload has as many bytes as the header says
@@ -24,8 +25,19 @@ use Rattle.sidheader.specs.Payload.{addressed, after, whole, payloadOf}
 use Rattle.sidrefusals.specs.PayloadTests.{sidTests}
 use Rattle.sid.specs.declared.Header.{Header}
 use Rattle.sid.specs.Header.{headerOf, textAt, spanAt}
-use Rattle.sid.specs.Answers.{sidOutcome}
+use Rattle.sid.specs.declared.Reading.{Reading}
+use Rattle.sid.specs.declared.Reading.the-variants.{Accepted, Refused}
+use Rattle.sid.specs.Answers.{told, sidOutcome}
 use Rattle.sid.specs.Pieces.{partOf}
+
+pub told-once : (a b : Reading) → told a ≡ told b → a ≡ b
+told-once (Accepted g) (Accepted h) e = let same : g ≡ h = cc in rw same
+told-once (Accepted g) (Refused y) e = let z : _≡_ {A = ℕ} 0 1 = cc in absurd (omega arith)
+told-once (Refused x) (Accepted h) e = let z : _≡_ {A = ℕ} 0 1 = cc in absurd (omega arith)
+told-once (Refused x) (Refused y) e =
+    let number : x .number ≡ y .number = cc in
+    let place : x .place ≡ y .place = cc in
+    λ i. Refused (record { number = number i; place = place i })
 
 abbrev pub header : List ℕ → Header
 header f = headerOf f (fieldsOf f) (payloadOf f (fieldsOf f))

@@ -149,26 +149,53 @@ fn song_line(name: &[u8], file: &[u8], songs: u16) {
     write(b"\n");
 }
 
-// A file's answers. The first two files are also loaded into memories of other sizes.
-fn report(name: &[u8], file: &[u8], sizes: bool) {
+// A line with the parts of a file: the texts in brackets, and the payload's length.
+fn piece_line(name: &[u8], file: &[u8]) {
+    write(name);
+    write(b" pieces [");
+    write(sid::title(file));
+    write(b"] [");
+    write(sid::author(file));
+    write(b"] [");
+    write(sid::released(file));
+    write(b"]");
+    show(b"payload", sid::payload(file).len());
+    write(b"\n");
+}
+
+// The lines that only the first two files have: loads into memories of other sizes, and the parts.
+fn report_more(name: &[u8], file: &[u8]) {
+    let mut none = [EMPTY; 0];
+    let mut less = [EMPTY; 65535];
+    let mut more = [EMPTY; 65537];
+    load_line(name, file, &mut none);
+    load_line(name, file, &mut less);
+    load_line(name, file, &mut more);
+    piece_line(name, file);
+}
+
+// A file's answers. Songs are asked for where there are several, and of a file of the first two that is refused.
+fn report(name: &[u8], file: &[u8], first_two: bool) {
     let mut memory = [EMPTY; 65536];
     let answer = sid::read(file);
     write(name);
     show_reading(answer);
     write(b"\n");
     load_line(name, file, &mut memory);
-    if sizes {
-        let mut none = [EMPTY; 0];
-        let mut less = [EMPTY; 65535];
-        let mut more = [EMPTY; 65537];
-        load_line(name, file, &mut none);
-        load_line(name, file, &mut less);
-        load_line(name, file, &mut more);
+    if first_two {
+        report_more(name, file);
     }
-    if let Reading::Accepted(h) = answer {
-        let songs = h.songs;
-        if 1 < songs {
-            song_line(name, file, songs);
+    match answer {
+        Reading::Accepted(h) => {
+            let songs = h.songs;
+            if 1 < songs {
+                song_line(name, file, songs);
+            }
+        }
+        Reading::Refused(_) => {
+            if first_two {
+                song_line(name, file, 1);
+            }
         }
     }
 }
