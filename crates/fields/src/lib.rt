@@ -1,19 +1,19 @@
-// Numbers, parts and texts in lent bytes, and the copy of bytes into memory. A read past the end gives 0, so that no
-// reader needs to know a length first.
+// Numbers, parts and texts in lent bytes, and the copy of bytes into memory, for crates of ours. A read past the end gives
+// 0, so that no reader needs to know a length first.
 ghost use mathlib.Core.Path.{_≡_};
 ghost use Prim.Native.Nat.{_+_, _≤_};
 ghost use lib.ListN.{length, getD, take, drop};
 ghost use Rattle.fields.specs.Numbers.{be16, be32, le16};
 ghost use Rattle.fields.specs.Parts.{beforeZero, put};
 
-// The byte at k, 0 past the end.
+// internal: the byte at k, 0 past the end.
 pub fn byte_at(s: &[u8], k: usize) -> u8
     ensures { λ r. ⌜ r ≡ getD (now (s .entry)) k 0 ⌝ }
 {
     if k < s.len() { s[k] } else { 0 }
 }
 
-// Two bytes from k on, high byte first.
+// internal: two bytes from k on, high byte first.
 pub fn be16(s: &[u8], k: usize) -> u16
     ensures { λ r. ⌜ r ≡ be16 (now (s .entry)) k ⌝ }
 {
@@ -25,7 +25,7 @@ pub fn be16(s: &[u8], k: usize) -> u16
     high as u16 * 256 + low as u16
 }
 
-// Two bytes from k on, low byte first.
+// internal: two bytes from k on, low byte first.
 pub fn le16(s: &[u8], k: usize) -> u16
     ensures { λ r. ⌜ r ≡ le16 (now (s .entry)) k ⌝ }
 {
@@ -37,7 +37,7 @@ pub fn le16(s: &[u8], k: usize) -> u16
     low as u16 + high as u16 * 256
 }
 
-// Four bytes from k on, high byte first.
+// internal: four bytes from k on, high byte first.
 pub fn be32(s: &[u8], k: usize) -> u32
     ensures { λ r. ⌜ r ≡ be32 (now (s .entry)) k ⌝ }
 {
@@ -49,7 +49,7 @@ pub fn be32(s: &[u8], k: usize) -> u32
     high as u32 * 65536 + low as u32
 }
 
-// The len bytes from from on; of them only those that lie in the slice.
+// internal: the len bytes from from on; of them only those that lie in the slice.
 pub fn part(s: &[u8], from: usize, len: usize) -> &[u8]
     ensures { λ r. ⌜ now r ≡ take len (drop from (now (s .entry))) ⌝ }
 {
@@ -63,7 +63,7 @@ pub fn part(s: &[u8], from: usize, len: usize) -> &[u8]
     }
 }
 
-// How many bytes stand before the first zero; all of them where there is none.
+// internal: how many bytes stand before the first zero; all of them where there is none.
 pub fn text_length(s: &[u8]) -> usize
     ensures { λ r. ⌜ r ≡ length (beforeZero (now (s .entry))) ⌝ }
 {

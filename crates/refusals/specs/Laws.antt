@@ -1,6 +1,7 @@
 -- Laws of ordered tests, for every list of them.
 -- passed-none, none-passed   a list passes exactly when none of its tests applies
 -- first-answers              the answer is that of the first test that applies
+-- none-append                none of a list applies, so none of its second part
 -- first-append               a list in two parts: the second counts where the first passes
 -- tested-first               tests made one by one come to what the list comes to
 -- guarded-accepted           what comes after tests is accepted only where they pass
@@ -31,6 +32,10 @@ pub first-answers : (before after : List Test) (r : Reason) → None before
     → firstOf (before ++ test r true ∷ after) ≡ Failed (numberOf r)
 first-answers [] after r h = refl
 first-answers (t ∷ ts) after r h = rw (h .0) (first-answers ts after r (h .1))
+
+pub none-append : (ts us : List Test) → None (ts ++ us) → None us
+none-append [] us h = h
+none-append (t ∷ ts) us h = none-append ts us (h .1)
 
 abbrev pub later : Verdict → Verdict → Verdict
 later Passed v = v

@@ -42,7 +42,7 @@ pub struct Refusal {
 }
 
 impl Refusal {
-    // A refusal with no place of its own.
+    // internal: a refusal with no place of its own.
     pub fn unplaced(number: u32) -> Refusal
         ensures { λ r. ⌜ r ≡ unplaced number ⌝ }
     {
@@ -57,7 +57,7 @@ pub enum Verdict {
 }
 
 impl Verdict {
-    // The verdict after one more test.
+    // internal: the verdict after one more test.
     pub fn test(self, applies: bool, number: u32) -> Verdict
         ensures { λ r. ⌜ r ≡ tested self applies number ⌝ }
     {

@@ -12,6 +12,7 @@ use Rattle.refusals.specs.Tests.{pick}
 use Rattle.fields.specs.Parts.{beforeZero}
 use Rattle.sidheader.specs.declared.Fields.{Fields}
 use Rattle.sidheader.specs.declared.Payload.{Payload}
+use Rattle.sidheader.specs.Fields.{rsid}
 use Rattle.sidrefusals.specs.PayloadTests.{initOf, basic}
 use Rattle.sid.specs.declared.Kind.{Kind}
 use Rattle.sid.specs.declared.Kind.the-variants.{Psid, Rsid}
@@ -19,7 +20,7 @@ use Rattle.sid.specs.declared.Span.{Span}
 use Rattle.sid.specs.declared.Header.{Header}
 
 abbrev pub kindOf : ℕ → Kind
-kindOf magic = pick (eqb magic 0x52534944) Rsid Psid
+kindOf magic = pick (eqb magic rsid) Rsid Psid
 
 abbrev pub startOf : ℕ → ℕ
 startOf start = pick (eqb start 0) 1 start

@@ -5,30 +5,36 @@
 -- accepted-fits                  its payload lies within the 65,536 cells
 -- payload-whole                  its payload has as many bytes as the header says
 -- text-part                      a text's span names the text
+-- memory-loaded                  an accepted file puts its payload into a memory of 65,536 cells, and nothing else
+-- memory-length                  loading never changes how many cells there are
 use Prim.Native.Nat.{ℕ, _+_, _-_, _≤_}
 use mathlib.Core.Path.{_≡_, refl, sym, ap, subst, _∙_}
-use mathlib.Core.Bool.{Bool, true, false}
-use mathlib.Core.List.{List}
+use mathlib.Core.Bool.{Bool, true, false, not}
+use mathlib.Core.List.{List, [], _∷_}
 use native.Mathlib.Omega.{arith}
 use lib.ListN.{length, take, drop, length-take, length-drop}
 use lib.Seq.{take-take}
 use lib.Dec.{eqb}
-use borrow.Author.Tests.{ltb-false}
-use Rattle.refusals.specs.Numbers.Outcome.{accepted}
-use Rattle.refusals.specs.Tests.{None, firstOf, pick}
-use Rattle.refusals.specs.Laws.{passed-none, none-passed, guarded-accepted}
-use Rattle.fields.specs.Parts.{beforeZero}
-use Rattle.fields.specs.Laws.{take-before, length-before}
+use borrow.Author.Tests.{ltb-false, eqb-true, eq-eqb}
+use Rattle.refusals.specs.Numbers.{Outcome}
+use Rattle.refusals.specs.Numbers.Outcome.{accepted, refused}
+use Rattle.refusals.specs.Numbers.Reason.{memorySize}
+use Rattle.refusals.specs.Tests.{None, test, firstOf, guarded, pick}
+use Rattle.refusals.specs.Laws.{passed-none, none-passed, none-append, guarded-accepted}
+use Rattle.fields.specs.Parts.{beforeZero, put}
+use Rattle.fields.specs.Laws.{take-before, length-before, length-put}
 use Rattle.sidheader.specs.declared.Fields.{Fields}
 use Rattle.sidheader.specs.Fields.{fieldsOf}
 use Rattle.sidheader.specs.Payload.{addressed, after, whole, payloadOf}
-use Rattle.sidrefusals.specs.PayloadTests.{sidTests}
+use Rattle.sidrefusals.specs.HeaderTests.{headerTests}
+use Rattle.sidrefusals.specs.PayloadTests.{payloadTests, sidTests}
 use Rattle.sid.specs.declared.Header.{Header}
 use Rattle.sid.specs.Header.{headerOf, textAt, spanAt}
 use Rattle.sid.specs.declared.Reading.{Reading}
 use Rattle.sid.specs.declared.Reading.the-variants.{Accepted, Refused}
 use Rattle.sid.specs.Answers.{told, sidOutcome}
 use Rattle.sid.specs.Pieces.{partOf}
+use Rattle.sid.specs.Loading.{loadOutcome, filled, memoryAfter}
 
 pub told-once : (a b : Reading) → told a ≡ told b → a ≡ b
 told-once (Accepted g) (Accepted h) e = let same : g ≡ h = cc in rw same
@@ -58,7 +64,8 @@ pub accepted-fits : (f : List ℕ) (h : Header) → sidOutcome f ≡ accepted h 
 unfolding sidTests headerOf
 accepted-fits f h e =
     let p = payloadOf f (fieldsOf f) in
-    let fits = ltb-false 65536 (p .load + p .len) (accepted-none f h e .1 .1 .1 .1 .1 .1 .1 .1 .1 .1 .0) in
+    let none = none-append (headerTests (fieldsOf f)) (payloadTests (fieldsOf f) p) (accepted-none f h e) in
+    let fits = ltb-false 65536 (p .load + p .len) (none .1 .0) in
     subst (λ (k : Header). k .load + k .payload .len ≤ 65536) (accepted-header f h e) fits
 
 -- of any file, refused ones too, whichever way the payload lies
@@ -78,3 +85,20 @@ text-part f at =
     let text = take 31 (drop at f) in
     let short : length (beforeZero text) ≤ 31 = omega (arith, length-before text, length-take 31 (drop at f)) in
     sym (take-take (length (beforeZero text)) 31 (drop at f) short) ∙ take-before text
+
+pub memory-loaded : (f m : List ℕ) (h : Header) → length m ≡ 65536 → sidOutcome f ≡ accepted h → memoryAfter f m ≡ put m (h .load) (partOf f (h .payload))
+unfolding memoryAfter loadOutcome
+memory-loaded f m h size e = rw (eq-eqb (length m) 65536 size, e)
+
+pub memory-length : (f m : List ℕ) → length (memoryAfter f m) ≡ length m
+unfolding memoryAfter loadOutcome
+memory-length f m = go (eqb (length m) 65536) refl (sidOutcome f) refl
+  where
+    go : (b : Bool) → eqb (length m) 65536 ≡ b → (o : Outcome Header) → sidOutcome f ≡ o
+        → length (filled (guarded (firstOf (test memorySize (not b) ∷ [])) o) f m) ≡ length m
+    go false p o e = refl
+    go true p (refused n place) e = refl
+    go true p (accepted h) e =
+        let size = eqb-true (length m) 65536 p in
+        length-put m (h .load) (partOf f (h .payload))
+        (omega (arith, accepted-fits f h e, length-take (h .payload .len) (drop (h .payload .from) f)))

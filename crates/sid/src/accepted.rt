@@ -7,16 +7,18 @@ use crate::Span;
 use sidheader::Fields;
 use sidheader::Payload;
 
+// What the magic says the file is, once it is known to be one of the two.
 fn kind_of(magic: u32) -> Kind
     ensures { λ r. ⌜ r ≡ kindOf magic ⌝ }
 {
-    if magic == 0x52534944 {
+    if magic == sidheader::RSID {
         Kind::Rsid
     } else {
         Kind::Psid
     }
 }
 
+// Start song 0 reads as 1.
 fn start_of(start: u16) -> u16
     ensures { λ r. ⌜ r ≡ startOf start ⌝ }
 {
@@ -31,6 +33,7 @@ fn text_at(file: &[u8], at: usize) -> Span
     Span { from: at, len }
 }
 
+// internal: each field of the header, with the texts' lengths.
 pub fn header_of(file: &[u8], x: Fields, p: Payload) -> Header
     ensures { λ r. ⌜ r ≡ headerOf (now (file .entry)) x p ⌝ }
 {

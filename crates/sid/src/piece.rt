@@ -5,6 +5,7 @@ use crate::Header;
 use crate::Reading;
 use crate::Span;
 
+// The parts by name.
 pub enum Piece {
     Title,
     Author,
@@ -12,6 +13,7 @@ pub enum Piece {
     Payload,
 }
 
+// Where the header says that a part lies.
 fn span_of(h: Header, piece: Piece) -> Span
     ensures { λ r. ⌜ r ≡ spanOf h piece ⌝ }
 {
@@ -23,6 +25,7 @@ fn span_of(h: Header, piece: Piece) -> Span
     }
 }
 
+// internal: a part of an accepted file by its name; of a refused file nothing.
 pub fn piece_of(file: &[u8], piece: Piece) -> &[u8]
     ensures { λ r. ⌜ now r ≡ pieceIn (now (file .entry)) piece ⌝ }
 {

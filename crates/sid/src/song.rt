@@ -16,6 +16,7 @@ fn bit_number(song: u64) -> u32
     (song - 1) as u32
 }
 
+// internal: the bit itself.
 pub fn speed_bit(field: u32, song: u64) -> u32
     ensures { λ r. ⌜ r ≡ speedBit field song ⌝ }
 {

@@ -1,4 +1,5 @@
 -- Source 003, 'The SID file header v1' and 'v2', and document 01, 'PSID and RSID': the header's fields, big-endian, at their offsets.
+-- psid, rsid the magic of each kind, 0x50534944 or 0x52534944
 -- added      a field that version 2 adds: 'Version 1 takes flags, page bytes and that word as 0'
 -- fieldsOf   the fields of a file
 use Prim.Native.Nat.{ℕ}
@@ -8,6 +9,12 @@ use lib.Dec.{eqb}
 use Rattle.refusals.specs.Tests.{pick}
 use Rattle.fields.specs.Numbers.{be16, be32}
 use Rattle.sidheader.specs.declared.Fields.{Fields}
+
+abbrev pub psid : ℕ
+psid = 0x50534944
+
+abbrev pub rsid : ℕ
+rsid = 0x52534944
 
 abbrev pub added : ℕ → ℕ → ℕ
 added version field = pick (eqb version 1) 0 field

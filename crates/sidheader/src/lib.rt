@@ -4,6 +4,11 @@ ghost use Prim.Native.Nat.{_-_};
 ghost use Rattle.sidheader.specs.Fields.{added, fieldsOf};
 ghost use Rattle.sidheader.specs.Payload.{payloadOf};
 
+// The magic of each kind, four letters as a number with the first letter highest.
+pub const PSID: u32 = 0x50534944;
+
+pub const RSID: u32 = 0x52534944;
+
 // The numbers of a header, each at its offset in source 003; size is the file's length.
 pub struct Fields {
     pub size: usize,

@@ -8,13 +8,13 @@ use lib.Dec.{ltb, eqb}
 use Rattle.refusals.specs.Numbers.Reason.{tooShort, magic, version, dataOffset, rsidReserved, songs, reservedBits, musPayload}
 use Rattle.refusals.specs.Tests.{Test, test}
 use Rattle.sidheader.specs.declared.Fields.{Fields}
+use Rattle.sidheader.specs.Fields.{psid, rsid}
 
--- 'PSID' and 'RSID' as four bytes, high byte first
 abbrev pub isPsid : Fields → Bool
-isPsid x = eqb (x .magic) 0x50534944
+isPsid x = eqb (x .magic) psid
 
 abbrev pub isRsid : Fields → Bool
-isRsid x = eqb (x .magic) 0x52534944
+isRsid x = eqb (x .magic) rsid
 
 abbrev pub one : Fields → Bool
 one x = eqb (x .version) 1

@@ -1,7 +1,7 @@
 -- Document 01, 'Sums on the bench', starred: 'RSID, BASIC clear and load place allowed: effective init $07E8 and $9FFF pass, $07E7
 -- and $A000 give 12.' One table under one statement; the other starred sums are of pairs.
 -- Sum        an init field, a load address, and what the tests come to
--- rsid       an RSID header with that field that no other test refuses
+-- header     an RSID header with that field that no other test refuses
 -- starred    the table: the effective init by the field, then by the load address where the field is 0
 -- right      each sum of the table is right
 use Prim.Native.Nat.{ℕ}
@@ -12,6 +12,7 @@ use Rattle.refusals.specs.declared.Verdict.the-variants.{Passed, Failed}
 use Rattle.refusals.specs.Tests.{firstOf}
 use Rattle.sidheader.specs.declared.Fields.{Fields}
 use Rattle.sidheader.specs.declared.Payload.{Payload}
+use Rattle.sidheader.specs.Fields.{rsid as magic}
 use Rattle.sidrefusals.specs.HeaderTests.{headerTests}
 use Rattle.sidrefusals.specs.Pages.{anyPage, badPages}
 use Rattle.sidrefusals.specs.PayloadTests.{initOf, barredInit, payloadTests}
@@ -24,11 +25,11 @@ pub record Sum : Type 0 where
 abbrev sum : ℕ → ℕ → Verdict → Sum
 sum init load comes = record { init = init; load = load; comes = comes }
 
-unfoldable pub rsid : ℕ → Fields
-rsid init =
+unfoldable pub header : ℕ → Fields
+header init =
     record {
       size = 130;
-      magic = 0x52534944;
+      magic = magic;
       version = 2;
       offset = 0x7C;
       load = 0;
@@ -59,8 +60,8 @@ starred =
 
 -- what the tests come to for the header and payload of a sum
 unfoldable pub tested : Sum → Verdict
-tested s = firstOf (headerTests (rsid (s .init)) ++ payloadTests (rsid (s .init)) (payload (s .load)))
+tested s = firstOf (headerTests (header (s .init)) ++ payloadTests (header (s .init)) (payload (s .load)))
 
 pub right : map tested starred ≡ map (λ (s : Sum). s .comes) starred
-unfolding starred tested rsid payload initOf barredInit badPages anyPage
+unfolding starred tested header payload initOf barredInit badPages anyPage
 right = refl

@@ -9,16 +9,12 @@ use refusals::Verdict;
 use sidheader::Fields;
 use sidheader::Payload;
 
-const PSID: u32 = 0x50534944;
-
-const RSID: u32 = 0x52534944;
-
 // internal: the tests of the header's fields, 1 to 8.
 pub fn test_header(x: Fields) -> Verdict
     ensures { λ r. ⌜ r ≡ firstOf (headerTests x) ⌝ }
 {
-    let psid = x.magic == PSID;
-    let rsid = x.magic == RSID;
+    let psid = x.magic == sidheader::PSID;
+    let rsid = x.magic == sidheader::RSID;
     let one = x.version == 1;
     let two = x.version == 2;
     let reserved = (x.load != 0) | (x.play != 0) | (x.speed != 0);
@@ -88,7 +84,7 @@ fn has_bad_pages(x: Fields, p: Payload) -> bool
     let low = meets(start, count, 0x00, 0x03);
     let rom = meets(start, count, 0xA0, 0xBF);
     let high = meets(start, count, 0xD0, 0xFF);
-    let taken = touched | (x.magic == RSID) & (low | rom | high);
+    let taken = touched | (x.magic == sidheader::RSID) & (low | rom | high);
     let unstated = (start == 0) | (start == 0xFF);
     let over = 256 < start as usize + count as usize;
     unstated & (count != 0) | !unstated & ((count == 0) | over | taken)
@@ -102,7 +98,7 @@ pub fn test_payload(x: Fields, p: Payload) -> Verdict
     let size = x.size;
     let offset = x.offset as usize;
     let load = p.load as usize;
-    let rsid = x.magic == RSID;
+    let rsid = x.magic == sidheader::RSID;
     let own = x.load == 0;
     let basic = x.flags / 2 % 2 == 1;
     let init = init_of(x, p);
