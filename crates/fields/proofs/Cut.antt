@@ -1,14 +1,13 @@
 -- The length of a list before its first zero, counted from the front. Assumes nothing.
 use Prim.Native.Nat.{ℕ, suc, _+_, _<_, _≤_}
-use mathlib.Core.Path.{_≡_, refl, sym, _∙_}
-use mathlib.Core.List.{List, [], _∷_}
+use mathlib.Core.Path.{_≡_}
+use mathlib.Core.List.{List}
 use native.Mathlib.Omega.{arith}
 use native.Mathlib.Numerals.{add-one}
 use lib.ListN.{length, drop, getD, drop-of-length-le}
 use lib.Seq.{drop-cons}
-use lib.Dec.{eqb}
 use borrow.Author.Tests.{eq-eqb, ne-eqb}
-use Rattle.fields.specs.Parts.{beforeZero, unlessZero}
+use Rattle.fields.specs.Parts.{beforeZero}
 
 -- what is counted so far, and what is still to be counted
 abbrev pub Counted : List ℕ → ℕ → Type 0

@@ -1,5 +1,5 @@
 -- Document 01, 'PSID and RSID', last paragraph: a text cut at a zero, and a payload put into memory.
--- beforeZero   'cut before the first zero among them'
+-- beforeZero   'cut before the first zero among them', byte by byte with unlessZero
 -- put          the bytes p in the place of those from a on, 'every cell but the payload's as it stood'
 use Prim.Native.Nat.{ℕ, _+_}
 use mathlib.Core.Bool.{Bool, true, false}

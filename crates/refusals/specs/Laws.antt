@@ -2,8 +2,8 @@
 -- passed-none, none-passed   a list passes exactly when none of its tests applies
 -- first-answers              the answer is that of the first test that applies
 -- none-append                none of a list applies, so none of its second part
--- first-append               a list in two parts: the second counts where the first passes
--- tested-first               tests made one by one come to what the list comes to
+-- later, first-append        a list in two parts: the second counts where the first passes
+-- testedAll, tested-first    tests made one by one come to what the list comes to
 -- guarded-accepted           what comes after tests is accepted only where they pass
 use Prim.Native.Nat.{ℕ}
 use mathlib.Core.Path.{_≡_, refl}
@@ -12,7 +12,7 @@ use mathlib.Core.Bool.{Bool, true, false}
 use mathlib.Core.List.{List, [], _∷_, _++_}
 use Rattle.refusals.specs.declared.Verdict.{Verdict}
 use Rattle.refusals.specs.declared.Verdict.the-variants.{Passed, Failed}
-use Rattle.refusals.specs.Numbers.{Reason, Outcome, numberOf}
+use Rattle.refusals.specs.Numbers.{Reason, numberOf}
 use Rattle.refusals.specs.Numbers.Outcome.{accepted}
 use Rattle.refusals.specs.Tests.{Test, pick, test, firstOf, None, guarded, tested}
 

@@ -30,6 +30,7 @@ pub const RSID_LOAD: u32 = 11;
 pub const RSID_INIT: u32 = 12;
 
 pub const FREE_PAGES: u32 = 13;
+
 // What a caller hands in
 pub const MEMORY_SIZE: u32 = 40;
 

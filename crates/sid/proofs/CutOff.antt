@@ -6,24 +6,25 @@ use mathlib.Core.Path.{_≡_, refl, sym, _∙_}
 use mathlib.Core.Bool.{Bool, true, false, not, _&&_, _||_}
 use mathlib.Core.List.{List}
 use native.Mathlib.Omega.{arith}
-use lib.ListN.{length, take, getD}
+use lib.ListN.{length, take}
 use lib.Seq.{length-take-le, getD-take}
-use lib.Dec.{ltb, eqb}
+use lib.Dec.{eqb}
 use borrow.Author.Tests.{lt-ltb, le-ltb, ne-eqb, eqb-true}
 use Rattle.refusals.specs.Numbers.{Outcome}
 use Rattle.refusals.specs.Numbers.Outcome.{accepted}
 use Rattle.refusals.specs.declared.Verdict.{Verdict}
 use Rattle.refusals.specs.declared.Verdict.the-variants.{Passed, Failed}
 use Rattle.refusals.specs.Tests.{firstOf, pick, guarded}
-use Rattle.refusals.specs.Laws.{later, first-append, passed-none}
+use Rattle.refusals.specs.Laws.{later, passed-none}
 use Rattle.fields.specs.Numbers.{be16, be32}
 use Rattle.sidheader.specs.declared.Fields.{Fields}
 use Rattle.sidheader.specs.Fields.{fieldsOf}
 use Rattle.sidheader.specs.Payload.{addressed, after, whole, payloadOf}
 use Rattle.sidrefusals.specs.HeaderTests.{one, two, isRsid, headerTests}
-use Rattle.sidrefusals.specs.PayloadTests.{payloadTests, sidTests}
+use Rattle.sidrefusals.specs.PayloadTests.{payloadTests}
 use Rattle.sid.specs.Answers.{sidOutcome}
 use Rattle.sid.specs.Laws.{header}
+use Rattle.sid.proofs.Outcomes.{by-parts}
 
 -- the fields with another size
 abbrev resized : Fields → ℕ → Fields
@@ -103,17 +104,11 @@ too-long f x o h = go (addressed x) refl
         let some : x .size - x .offset ≡ 0 → ⊥ = omega arith in
         rw (e, ne-eqb (x .size - x .offset) 0 some, lt-ltb 65536 (x .load + (x .size - x .offset)) (omega arith))
 
--- reading, by the verdict on the header
-by-header : (f : List ℕ) (v : Verdict) → firstOf (headerTests (fieldsOf f)) ≡ v
-    → sidOutcome f ≡ guarded (later v (firstOf (payloadTests (fieldsOf f) (payloadOf f (fieldsOf f))))) (accepted (header f))
-unfolding sidOutcome sidTests
-by-header f v e = rw (first-append (headerTests (fieldsOf f)) (payloadTests (fieldsOf f) (payloadOf f (fieldsOf f))), e)
-
 -- a long file is refused by its header or with 10
 by-long : (f : List ℕ) (v : Verdict) → firstOf (headerTests (fieldsOf f)) ≡ v → 65663 ≤ fieldsOf f .size
     → sidOutcome f ≡ guarded (later v (Failed 10)) (accepted (header f))
-by-long f Passed e h = by-header f Passed e ∙ rw (too-long f (fieldsOf f) (offset-passed (fieldsOf f) e) h)
-by-long f (Failed m) e h = by-header f (Failed m) e
+by-long f Passed e h = by-parts f (fieldsOf f) (payloadOf f (fieldsOf f)) refl refl ∙ rw (e, too-long f (fieldsOf f) (offset-passed (fieldsOf f) e) h)
+by-long f (Failed m) e h = by-parts f (fieldsOf f) (payloadOf f (fieldsOf f)) refl refl ∙ rw e
 
 either : {A : Type 0} (v : Verdict) (a b : Outcome A) → guarded (later v (Failed 10)) a ≡ guarded (later v (Failed 10)) b
 either Passed a b = refl

@@ -1,4 +1,5 @@
 -- What each way through a call comes to. Assumes nothing.
+-- by-parts                                    reading, by its two lists of tests
 -- too-short, header-failed, payload-failed, all-passed   reading, by the verdicts of its two lists of tests
 -- payload-short                               the payload is no longer than the file
 -- wrong-size, load-refused, load-fits, loaded loading, by the size of memory and by the reading
@@ -38,7 +39,7 @@ too-short f h = rw (lt-ltb (length f) 118 h)
 
 module _ (f : List ℕ) (x : Fields) (p : Payload) (ex : x ≡ fieldsOf f) (ep : p ≡ payloadOf f x) where
   -- reading, by its two lists of tests
-  by-parts : sidOutcome f ≡ guarded (later (firstOf (headerTests x)) (firstOf (payloadTests x p))) (accepted (headerOf f x p))
+  pub by-parts : sidOutcome f ≡ guarded (later (firstOf (headerTests x)) (firstOf (payloadTests x p))) (accepted (headerOf f x p))
   unfolding sidOutcome sidTests
   by-parts = rw (ep, ex, first-append (headerTests (fieldsOf f)) (payloadTests (fieldsOf f) (payloadOf f (fieldsOf f))))
 

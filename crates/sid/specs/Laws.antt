@@ -1,4 +1,5 @@
 -- A file is accepted exactly when none of 1 to 13 applies to it. Laws of reading and of the parts of an accepted file.
+-- header                         what a file says of itself, accepted or not
 -- none-accepted, accepted-none   'accepted exactly when no listed refusal applies'
 -- told-once                      no two answers are told alike: an equation of `told` leaves the answer no freedom
 -- accepted-header                the header of an accepted file
@@ -8,7 +9,7 @@
 -- memory-loaded                  an accepted file puts its payload into a memory of 65,536 cells, and nothing else
 -- memory-length                  loading never changes how many cells there are
 use Prim.Native.Nat.{ℕ, _+_, _-_, _≤_}
-use mathlib.Core.Path.{_≡_, refl, sym, ap, subst, _∙_}
+use mathlib.Core.Path.{_≡_, refl, sym, subst, _∙_}
 use mathlib.Core.Bool.{Bool, true, false, not}
 use mathlib.Core.List.{List, [], _∷_}
 use native.Mathlib.Omega.{arith}
@@ -23,7 +24,6 @@ use Rattle.refusals.specs.Tests.{None, test, firstOf, guarded, pick}
 use Rattle.refusals.specs.Laws.{passed-none, none-passed, none-append, guarded-accepted}
 use Rattle.fields.specs.Parts.{beforeZero, put}
 use Rattle.fields.specs.Laws.{take-before, length-before, length-put}
-use Rattle.sidheader.specs.declared.Fields.{Fields}
 use Rattle.sidheader.specs.Fields.{fieldsOf}
 use Rattle.sidheader.specs.Payload.{addressed, after, whole, payloadOf}
 use Rattle.sidrefusals.specs.HeaderTests.{headerTests}

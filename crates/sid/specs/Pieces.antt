@@ -1,6 +1,7 @@
 -- Document 01, 'PSID and RSID': 'title, author, released text and payload are each a part of the lent bytes'.
 -- partOf                the part of a file that a span names; of it what lies in the file
 -- spanOf                a header's span by the part's name
+-- pieceOf               such a part, after the reading of its file
 -- pieceIn, titleIn, ..  such a part of an accepted file; of a refused file nothing (docs/DECISIONS.md)
 use Prim.Native.Nat.{ℕ}
 use mathlib.Core.List.{List, []}

@@ -3,13 +3,15 @@
 -- any-between                two ranges have a page in common
 -- any-or, any-and            one of two tests passes; a test beside a fact
 -- any-taken                  a page of a range, or for RSID a reserved one
-use Prim.Native.Nat.{ℕ, zero, suc, _+_, _<_, _≤_, max}
-use mathlib.Core.Path.{_≡_, refl, sym, _∙_}
+-- Byte, byte-touched, touched-byte   the payload touches a page exactly when one of its bytes lies there
+use Prim.Native.Nat.{ℕ, zero, suc, _+_, _-_, _*_, _/_, _<_, _≤_, max}
+use mathlib.Core.Path.{_≡_, refl, _∙_}
 use mathlib.Core.Bool.{Bool, true, false, not, _&&_, _||_, false≢true, or-true}
 use native.Mathlib.Omega.{arith}
 use lib.Dec.{ltb, leb, eqb}
 use borrow.Author.Tests.{ltb-true, leb-true, eqb-true, eqb-false, not-true, lt-ltb, le-leb, ne-eqb}
-use Rattle.sidrefusals.specs.Pages.{anyPage, between, reservedPage}
+use Rattle.sidheader.specs.declared.Payload.{Payload}
+use Rattle.sidrefusals.specs.Pages.{anyPage, between, touched, reservedPage}
 use Rattle.sidrefusals.proofs.Tests.{same, both, both-left, both-right}
 
 -- a page of the count from start on that passes t
@@ -92,3 +94,22 @@ pub any-taken : (start count : ℕ) (t : ℕ → Bool) (rsid : Bool)
 any-taken start count t rsid =
     any-or start count t (λ n. rsid && reservedPage n)
     ∙ rw (any-and start count rsid reservedPage, any-or start count (λ n. between 0x00 0x03 n || between 0xA0 0xBF n) (between 0xD0 0xFF), any-or start count (between 0x00 0x03) (between 0xA0 0xBF))
+
+-- a byte of the payload in page n, by its address
+pub record Byte (p : Payload) (n : ℕ) : Type 0 where
+  pub address : ℕ
+  pub low : p .load ≤ address
+  pub high : address < p .load + p .len
+  pub page : address / 256 ≡ n
+
+pub byte-touched : (p : Payload) (n : ℕ) → Byte p n → touched p n ≡ true
+byte-touched p n b =
+    let low : p .load / 256 ≤ n = omega (arith, b .low, b .page) in
+    let high : n ≤ (p .load + p .len - 1) / 256 = omega (arith, b .high, b .page) in
+    both (le-leb (p .load / 256) n low) (le-leb n ((p .load + p .len - 1) / 256) high)
+
+pub touched-byte : (p : Payload) (n : ℕ) → 0 < p .len → touched p n ≡ true → Byte p n
+touched-byte p n some e =
+    let low = leb-true (p .load / 256) n (both-left (leb (p .load / 256) n) (leb n ((p .load + p .len - 1) / 256)) e) in
+    let high = leb-true n ((p .load + p .len - 1) / 256) (both-right (leb (p .load / 256) n) (leb n ((p .load + p .len - 1) / 256)) e) in
+    record { address = max (p .load) (256 * n); low = omega arith; high = omega arith; page = omega arith }

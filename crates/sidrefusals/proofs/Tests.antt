@@ -2,7 +2,7 @@
 -- same                    the law
 -- both, -left, -right     what `&&` holds of
 -- few-after, none-after   how many bytes lie past a place, without a difference
-use Prim.Native.Nat.{ℕ, _+_, _-_, _<_, _≤_}
+use Prim.Native.Nat.{ℕ, _+_, _-_, _<_}
 use mathlib.Core.Path.{_≡_, refl, sym}
 use mathlib.Core.Bool.{Bool, true, false, _&&_}
 use native.Mathlib.Omega.{arith}

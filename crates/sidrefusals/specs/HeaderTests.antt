@@ -1,7 +1,7 @@
 -- Document 01, 'PSID and RSID': the tests of the header's fields, 1 to 8, in the paper's order.
 -- isPsid, isRsid, one, two   the magic and the version by name
 -- headerTests                the tests
-use Prim.Native.Nat.{ℕ, _/_, _%_}
+use Prim.Native.Nat.{_/_, _%_}
 use mathlib.Core.Bool.{Bool, not, _&&_, _||_}
 use mathlib.Core.List.{List, [], _∷_}
 use lib.Dec.{ltb, eqb}

@@ -8,7 +8,7 @@
 use Prim.Native.Nat.{ℕ, _+_, _-_, _/_, _%_}
 use mathlib.Core.Bool.{Bool, not, _&&_, _||_}
 use mathlib.Core.List.{List, [], _∷_, _++_}
-use lib.Dec.{leb, ltb, eqb}
+use lib.Dec.{ltb, eqb}
 use Rattle.refusals.specs.Numbers.Reason.{noPayload, pastMemory, rsidLoad, rsidInit, freePages}
 use Rattle.refusals.specs.Tests.{Test, test, pick}
 use Rattle.sidheader.specs.declared.Fields.{Fields}
@@ -38,9 +38,9 @@ payloadTests x p =
     ∷ test pastMemory (ltb 65536 (p .load + p .len))
     -- 11: RSID load address below $07E8
     ∷ test rsidLoad (isRsid x && ltb (p .load) 0x07E8)
-    -- 12: RSID with BASIC set and init field not 0; or without it, the effective init barred
+    -- 12: RSID with bit 1 (BASIC) set and init field not 0; or without it, the effective init barred
     ∷ test rsidInit (isRsid x && (basic x && not (eqb (x .init) 0) || not (basic x) && barredInit (initOf x p)))
-    -- 13: free pages
+    -- 13: the stated free pages, as Pages has it
     ∷ test freePages (badPages x p)
     ∷ []
 

@@ -1,9 +1,10 @@
 -- Document 01, 'Sums on the bench', starred: 'RSID, BASIC clear and load place allowed: effective init $07E8 and $9FFF pass, $07E7
 -- and $A000 give 12.' One table under one statement; the other starred sums are of pairs.
--- Sum        an init field, a load address, and what the tests come to
--- header     an RSID header with that field that no other test refuses
--- starred    the table: the effective init by the field, then by the load address where the field is 0
--- right      each sum of the table is right
+-- Sum, sum        an init field, a load address, and what the tests come to
+-- header, payload an RSID header and payload with these that no other test refuses
+-- tested          what the tests come to for a sum
+-- starred         the table: the effective init by the field, then by the load address where the field is 0
+-- right           each sum of the table is right
 use Prim.Native.Nat.{ℕ}
 use mathlib.Core.Path.{_≡_, refl}
 use mathlib.Core.List.{List, [], _∷_, _++_, map}
@@ -58,7 +59,6 @@ starred =
     ∷ sum 0 0xA000 (Failed 12)
     ∷ []
 
--- what the tests come to for the header and payload of a sum
 unfoldable pub tested : Sum → Verdict
 tested s = firstOf (headerTests (header (s .init)) ++ payloadTests (header (s .init)) (payload (s .load)))
 
