@@ -4,16 +4,18 @@
 -- none-append                none of a list applies, so none of its second part
 -- later, first-append        a list in two parts: the second counts where the first passes
 -- testedAll, tested-first    tests made one by one come to what the list comes to
+-- refused-once               a refusal is known by its number and place
 -- guarded-accepted           what comes after tests is accepted only where they pass
 use Prim.Native.Nat.{ℕ}
 use mathlib.Core.Path.{_≡_, refl}
 use native.Mathlib.Omega.{arith}
 use mathlib.Core.Bool.{Bool, true, false}
 use mathlib.Core.List.{List, [], _∷_, _++_}
+use Rattle.refusals.specs.declared.Refusal.{Refusal}
 use Rattle.refusals.specs.declared.Verdict.{Verdict}
 use Rattle.refusals.specs.declared.Verdict.the-variants.{Passed, Failed}
-use Rattle.refusals.specs.Numbers.{Reason, numberOf}
-use Rattle.refusals.specs.Numbers.Outcome.{accepted}
+use Rattle.refusals.specs.Numbers.{Reason, Outcome, numberOf}
+use Rattle.refusals.specs.Numbers.Outcome.{accepted, refused}
 use Rattle.refusals.specs.Tests.{Test, pick, test, firstOf, None, guarded, tested}
 
 pick-passed : (b : Bool) (n : ℕ) (v : Verdict) → pick b (Failed n) v ≡ Passed → (b ≡ false) × (v ≡ Passed)
@@ -69,3 +71,9 @@ tested-first (t ∷ ts) = go (t .applies) (tested-first ts)
 pub guarded-accepted : {A : Type 0} (v : Verdict) (a b : A) → guarded v (accepted b) ≡ accepted a → (v ≡ Passed) × (b ≡ a)
 guarded-accepted Passed a b e = (refl, cc)
 guarded-accepted (Failed n) a b e = let z : _≡_ {A = ℕ} 0 1 = cc in absurd (omega arith)
+
+pub refused-once : {X : Type 0} (x y : Refusal) → _≡_ {A = Outcome X} (refused (x .number) (x .place)) (refused (y .number) (y .place)) → x ≡ y
+refused-once x y e =
+    let number : x .number ≡ y .number = cc in
+    let place : x .place ≡ y .place = cc in
+    λ i. record { number = number i; place = place i }

@@ -7,7 +7,8 @@ use Rattle.refusals.specs.declared.Refusal.{Refusal}
 
 pub data Reason : Type 0 where
   tooShort magic version dataOffset rsidReserved songs reservedBits musPayload noPayload pastMemory rsidLoad rsidInit freePages : Reason
-  memorySize noSuchSong : Reason
+  unassignedPair valueRange : Reason
+  memorySize noPair noSuchSong : Reason
 
 abbrev pub numberOf : Reason → ℕ
 numberOf tooShort = 1
@@ -23,7 +24,10 @@ numberOf pastMemory = 10
 numberOf rsidLoad = 11
 numberOf rsidInit = 12
 numberOf freePages = 13
+numberOf unassignedPair = 27
+numberOf valueRange = 28
 numberOf memorySize = 40
+numberOf noPair = 43
 numberOf noSuchSong = 44
 
 abbrev pub unplaced : ℕ → Refusal

@@ -31,8 +31,15 @@ pub const RSID_INIT: u32 = 12;
 
 pub const FREE_PAGES: u32 = 13;
 
+// A MUS pair
+pub const UNASSIGNED_PAIR: u32 = 27;
+
+pub const VALUE_RANGE: u32 = 28;
+
 // What a caller hands in
 pub const MEMORY_SIZE: u32 = 40;
+
+pub const NO_PAIR: u32 = 43;
 
 pub const NO_SUCH_SONG: u32 = 44;
 

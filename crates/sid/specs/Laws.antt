@@ -9,7 +9,7 @@
 -- memory-loaded                  an accepted file puts its payload into a memory of 65,536 cells, and nothing else
 -- memory-length                  loading never changes how many cells there are
 use Prim.Native.Nat.{ℕ, _+_, _-_, _≤_}
-use mathlib.Core.Path.{_≡_, refl, sym, subst, _∙_}
+use mathlib.Core.Path.{_≡_, refl, sym, subst, _∙_, ap}
 use mathlib.Core.Bool.{Bool, true, false, not}
 use mathlib.Core.List.{List, [], _∷_}
 use native.Mathlib.Omega.{arith}
@@ -21,7 +21,7 @@ use Rattle.refusals.specs.Numbers.{Outcome}
 use Rattle.refusals.specs.Numbers.Outcome.{accepted, refused}
 use Rattle.refusals.specs.Numbers.Reason.{memorySize}
 use Rattle.refusals.specs.Tests.{None, test, firstOf, guarded, pick}
-use Rattle.refusals.specs.Laws.{passed-none, none-passed, none-append, guarded-accepted}
+use Rattle.refusals.specs.Laws.{passed-none, none-passed, none-append, guarded-accepted, refused-once}
 use Rattle.fields.specs.Parts.{beforeZero, put}
 use Rattle.fields.specs.Laws.{take-before, length-before, length-put}
 use Rattle.sidheader.specs.Fields.{fieldsOf}
@@ -40,10 +40,7 @@ pub told-once : (a b : Reading) → told a ≡ told b → a ≡ b
 told-once (Accepted g) (Accepted h) e = let same : g ≡ h = cc in rw same
 told-once (Accepted g) (Refused y) e = let z : _≡_ {A = ℕ} 0 1 = cc in absurd (omega arith)
 told-once (Refused x) (Accepted h) e = let z : _≡_ {A = ℕ} 0 1 = cc in absurd (omega arith)
-told-once (Refused x) (Refused y) e =
-    let number : x .number ≡ y .number = cc in
-    let place : x .place ≡ y .place = cc in
-    λ i. Refused (record { number = number i; place = place i })
+told-once (Refused x) (Refused y) e = ap Refused (refused-once {X = Header} x y e)
 
 abbrev pub header : List ℕ → Header
 header f = headerOf f (fieldsOf f) (payloadOf f (fieldsOf f))

@@ -1,0 +1,18 @@
+use mathlib.Core.Path.{_≡_, _∙_, sym, ap}
+use borrow.Author.Tests.{le-leb, lt-leb}
+use borrow.Author.Needs.{needs}
+use Rattle.signed.specs.Laws.{kept}
+use Rattle.command.proofs.signs.read_jif.Statement.{statement}
+use Rattle.command.proofs.signs.read_jif.Tie as tie
+
+returns : tie.Need-returns
+returns c = rw (le-leb _ _ (c .before .if1 .taken), kept (c .less .result) (c .less .ok), c .less .ensures)
+
+returns-2 : tie.Need-returns-2
+returns-2 c = rw (lt-leb _ _ (c .before .before .if1 .left), le-leb _ _ (c .before .if2 .taken), c .out-of-range .ensures)
+
+returns-3 : tie.Need-returns-3
+returns-3 c = rw (lt-leb _ _ (c .before .before .if1 .left), lt-leb _ _ (c .before .if2 .left), kept (c .less2 .result) (c .less2 .ok), c .less2 .ensures)
+
+pub read-jif-spec : {M : Type 1} → statement M
+read-jif-spec = tie.close (tie.spec (λ c κs. search needs) returns (λ c κs. search needs) returns-2 (λ c κs. search needs) returns-3)

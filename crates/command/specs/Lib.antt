@@ -1,0 +1,5 @@
+pub mod Patterns
+pub mod Codes
+pub mod Signs
+pub mod Others
+pub mod Pair

@@ -1,0 +1,71 @@
+use mathlib.Core.Path.{_∙_, sym}
+use native.Mathlib.Omega.{arith}
+use borrow.Author.Needs.{needs}
+use Rattle.signed.specs.Laws.{kept}
+use Rattle.meaning.specs.Laws.{octave-low, letter-low, raised-low}
+use Rattle.meaning.proofs.half_step.Statement.{statement}
+use Rattle.meaning.proofs.half_step.Tie as tie
+
+in-tables-requires : tie.Need-in-tables-requires
+in-tables-requires c κs = search needs
+
+mul-natural : tie.Need-mul-natural
+mul-natural c =
+    let low = octave-low (c .before .before .args .pitch) (sym (c .before .in-tables .ensures) ∙ c .if1 .taken) in
+    record { fits = omega arith }
+
+letter-step-requires : tie.Need-letter-step-requires
+letter-step-requires c κs = search needs
+
+add-natural : tie.Need-add-natural
+add-natural c =
+    let p = c .before .before .before .args .pitch in
+    let low = octave-low p (sym (c .before .before .in-tables .ensures) ∙ c .before .if1 .taken) in
+    let step = letter-low (p .letter) in
+    let is = c .letter-step .ensures in
+    record { fits = omega arith }
+
+raised-by-requires : tie.Need-raised-by-requires
+raised-by-requires c κs = search needs
+
+add-less : tie.Need-add-less
+add-less c =
+    let p = c .before .before .before .before .args .pitch in
+    let low = octave-low p (sym (c .before .before .before .in-tables .ensures) ∙ c .before .before .if1 .taken) in
+    let step = letter-low (p .letter) in
+    let is = c .before .letter-step .ensures in
+    let up = raised-low (p .accidental) in
+    let is-up = c .raised-by .ensures in
+    record { fits = omega arith }
+
+lowered-by-requires : tie.Need-lowered-by-requires
+lowered-by-requires c κs = search needs
+
+less-requires : tie.Need-less-requires
+less-requires c κs = search needs
+
+unplaced-requires : tie.Need-unplaced-requires
+unplaced-requires c κs = search needs
+
+returns : tie.Need-returns
+returns c =
+    rw (sym (c .before .before .before .before .before .in-tables .ensures) ∙ c .before .before .before .before .if1 .taken, kept (c .less .result) (c .less .ok), c .less .ensures, c .before .lowered-by .ensures, c .before .before .raised-by .ensures, c .before .before .before .letter-step .ensures)
+
+returns-2 : tie.Need-returns-2
+returns-2 c = rw (sym (c .before .before .in-tables .ensures) ∙ c .before .if1 .left, c .unplaced .ensures)
+
+pub half-step-spec : {M : Type 1} → statement M
+half-step-spec =
+    tie.close
+    (tie.spec
+    in-tables-requires
+    mul-natural
+    letter-step-requires
+    add-natural
+    raised-by-requires
+    add-less
+    lowered-by-requires
+    less-requires
+    unplaced-requires
+    returns
+    returns-2)

@@ -1,0 +1,69 @@
+-- A test of every number below a bound, computed once, and what it shows at each of them.
+-- every, every-at     the test passes at each number below n, so at k
+-- same, same-equal    two truth values compared, and so two signed numbers (sameℤ, sameℤ-equal)
+-- all-left, all-right what a test of two things shows
+-- each, each-at       the same of a table: at each place and its entry
+use Prim.Native.Nat.{ℕ, zero, suc, _+_, _<_}
+use mathlib.Core.Path.{_≡_, refl, ap, subst}
+use mathlib.Core.Bool.{Bool, true, false, not, _&&_}
+use mathlib.Core.List.{List, [], _∷_}
+use native.Mathlib.Omega.{arith}
+use native.Mathlib.Nat.{not-suc-le-zero, le-of-suc-le-suc}
+use native.Mathlib.Decide.{decLt}
+use lib.Dec.{T, eqb, eqb→eq}
+use lib.IntN.{ℤ, pos, negsuc}
+use lib.ListN.{length, getD}
+
+abbrev pub every : (ℕ → Bool) → ℕ → Bool
+every f zero = true
+every f (suc n) = f n && every f n
+
+pub all-left : (a b : Bool) → T (a && b) → T a
+all-left true b t = tt
+all-left false b t = t
+
+pub all-right : (a b : Bool) → T (a && b) → T b
+all-right true b t = t
+all-right false b t = absurd t
+
+pub every-at : (f : ℕ → Bool) (n : ℕ) → T (every f n) → (k : ℕ) → k < n → T (f k)
+every-at f zero t k h = absurd (not-suc-le-zero h)
+every-at f (suc n) t k h =
+    elim (decLt k n) [
+      | yes p ↦ every-at f n (all-right (f n) (every f n) t) k p
+      | no q ↦ subst (λ (j : ℕ). T (f j)) (omega arith) (all-left (f n) (every f n) t)
+    ]
+
+abbrev pub same : Bool → Bool → Bool
+same true b = b
+same false b = not b
+
+pub same-equal : (a b : Bool) → T (same a b) → a ≡ b
+same-equal true true t = refl
+same-equal true false t = absurd t
+same-equal false true t = absurd t
+same-equal false false t = refl
+
+abbrev pub sameℤ : ℤ → ℤ → Bool
+sameℤ (pos m) (pos n) = eqb m n
+sameℤ (pos m) (negsuc n) = false
+sameℤ (negsuc m) (pos n) = false
+sameℤ (negsuc m) (negsuc n) = eqb m n
+
+pub sameℤ-equal : (y z : ℤ) → T (sameℤ y z) → y ≡ z
+sameℤ-equal (pos m) (pos n) t = ap pos (eqb→eq m n t)
+sameℤ-equal (pos m) (negsuc n) t = absurd t
+sameℤ-equal (negsuc m) (pos n) t = absurd t
+sameℤ-equal (negsuc m) (negsuc n) t = ap negsuc (eqb→eq m n t)
+
+-- the same of a table: the test passes at each place, counted from i, and the entry there
+abbrev pub each : (ℕ → ℕ → Bool) → ℕ → List ℕ → Bool
+each f i [] = true
+each f i (x ∷ xs) = f i x && each f (i + 1) xs
+
+pub each-at : (f : ℕ → ℕ → Bool) (xs : List ℕ) (i k : ℕ) → T (each f i xs) → k < length xs → T (f (i + k) (getD xs k 0))
+each-at f [] i k t h = absurd (not-suc-le-zero h)
+each-at f (x ∷ xs) i zero t h = subst (λ (m : ℕ). T (f m x)) (omega arith) (all-left (f i x) (each f (i + 1) xs) t)
+each-at f (x ∷ xs) i (suc k) t h =
+    subst (λ (m : ℕ). T (f m (getD xs k 0))) (omega arith)
+    (each-at f xs (i + 1) k (all-right (f i x) (each f (i + 1) xs) t) (le-of-suc-le-suc h))

@@ -1,0 +1,73 @@
+-- Laws of answers and of pitches.
+-- meaning-once, bytes-once, step-once   no two answers are told alike: an equation of what is told leaves the answer no freedom
+-- both-left, both-right                what both of two tests show
+-- octave-low, letter-low, raised-low   the bounds of a half-step's parts
+use Prim.Native.Nat.{ℕ, _≤_}
+use mathlib.Core.Path.{_≡_, ap}
+use mathlib.Core.Bool.{Bool, true, false, _&&_}
+use native.Mathlib.Omega.{arith}
+use lib.Dec.{leb, lit≤}
+use lib.IntN.{ℤ}
+use borrow.Author.Tests.{leb-true}
+use Rattle.meaning.specs.declared.Letter.{Letter}
+use Rattle.meaning.specs.declared.Letter.the-variants.{C, D, E, F, G, A, B}
+use Rattle.meaning.specs.declared.Accidental.{Accidental}
+use Rattle.meaning.specs.declared.Accidental.the-variants.{Flat, Natural, Sharp, DoubleSharp, DoubleFlat}
+use Rattle.meaning.specs.declared.Pitch.{Pitch}
+use Rattle.refusals.specs.Laws.{refused-once}
+use Rattle.meaning.specs.declared.Meaning.{Meaning}
+use Rattle.meaning.specs.declared.Reading.{Reading}
+use Rattle.meaning.specs.declared.Reading.the-variants as Reading
+use Rattle.meaning.specs.declared.Spelling.{Spelling}
+use Rattle.meaning.specs.declared.Spelling.the-variants as Spelling
+use Rattle.meaning.specs.declared.HalfStep.{HalfStep}
+use Rattle.meaning.specs.declared.HalfStep.the-variants as HalfStep
+use Rattle.meaning.specs.Answers.{Bytes, toldMeaning, toldBytes, toldStep}
+use Rattle.meaning.specs.Pitches.{inTables, hasAccidental, letterStep, raisedBy}
+
+pub both-right : (a b : Bool) → a && b ≡ true → b ≡ true
+both-right true b e = e
+both-right false b e = absurd (let z : _≡_ {A = ℕ} 0 1 = cc in omega arith)
+
+pub both-left : (a b : Bool) → a && b ≡ true → a ≡ true
+both-left true b e = cc
+both-left false b e = e
+
+pub octave-low : (p : Pitch) → inTables p ≡ true → p .octave ≤ 7
+octave-low p e = leb-true (p .octave) 7 (both-right (hasAccidental (p .letter) (p .accidental)) (leb (p .octave) 7) e)
+
+pub letter-low : (l : Letter) → letterStep l ≤ 11
+letter-low C = lit≤ tt
+letter-low D = lit≤ tt
+letter-low E = lit≤ tt
+letter-low F = lit≤ tt
+letter-low G = lit≤ tt
+letter-low A = lit≤ tt
+letter-low B = lit≤ tt
+
+pub raised-low : (a : Accidental) → raisedBy a ≤ 2
+raised-low Flat = lit≤ tt
+raised-low Natural = lit≤ tt
+raised-low Sharp = lit≤ tt
+raised-low DoubleSharp = lit≤ tt
+raised-low DoubleFlat = lit≤ tt
+
+pub meaning-once : (a b : Reading) → toldMeaning a ≡ toldMeaning b → a ≡ b
+meaning-once (Reading.Means m) (Reading.Means n) e = let same : m ≡ n = cc in rw same
+meaning-once (Reading.Means m) (Reading.Refused y) e = let z : _≡_ {A = ℕ} 0 1 = cc in absurd (omega arith)
+meaning-once (Reading.Refused x) (Reading.Means n) e = let z : _≡_ {A = ℕ} 0 1 = cc in absurd (omega arith)
+meaning-once (Reading.Refused x) (Reading.Refused y) e = ap Reading.Refused (refused-once {X = Meaning} x y e)
+
+pub bytes-once : (a b : Spelling) → toldBytes a ≡ toldBytes b → a ≡ b
+bytes-once (Spelling.Bytes a b) (Spelling.Bytes c d) e =
+    let same : _≡_ {A = Bytes} (record { first = a; second = b }) (record { first = c; second = d }) = cc in
+    λ i. Spelling.Bytes (same i .first) (same i .second)
+bytes-once (Spelling.Bytes a b) (Spelling.Refused y) e = let z : _≡_ {A = ℕ} 0 1 = cc in absurd (omega arith)
+bytes-once (Spelling.Refused x) (Spelling.Bytes c d) e = let z : _≡_ {A = ℕ} 0 1 = cc in absurd (omega arith)
+bytes-once (Spelling.Refused x) (Spelling.Refused y) e = ap Spelling.Refused (refused-once {X = Bytes} x y e)
+
+pub step-once : (a b : HalfStep) → toldStep a ≡ toldStep b → a ≡ b
+step-once (HalfStep.Step y) (HalfStep.Step z) e = let same : y ≡ z = cc in rw same
+step-once (HalfStep.Step y) (HalfStep.Refused x) e = let z : _≡_ {A = ℕ} 0 1 = cc in absurd (omega arith)
+step-once (HalfStep.Refused x) (HalfStep.Step z) e = let z : _≡_ {A = ℕ} 0 1 = cc in absurd (omega arith)
+step-once (HalfStep.Refused x) (HalfStep.Refused y) e = ap HalfStep.Refused (refused-once {X = ℤ} x y e)

@@ -1,0 +1,4 @@
+pub mod Answers
+pub mod Pitches
+pub mod Every
+pub mod Laws

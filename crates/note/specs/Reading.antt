@@ -1,0 +1,76 @@
+-- Document 01, 'A pair': 'First byte with low bits 00: a note', and 'Second byte'.
+-- shapeOf          'Bits 7 and 5: 00 plain, 01 dotted, 10 triplet, 11 double dotted'
+-- tripletOrPlain   'triplet when bit 7 is set'
+-- utilityOf        'Code 1 is utility voice when bit 5 is set (bit 7 then has no meaning), else utility duration, ..'
+-- valueOf          '2 whole, 3 half, 4 quarter, 5 eighth, 6 sixteenth, 7 thirty-second'
+-- lengthOf         'Code is bits 4-2 .. Byte 00 is absolute pitch. Code 0 otherwise is a 64th, ..'
+-- letterOf         '1 to 7 C D E F G A B'
+-- doubleOf, accidentalOf   'bits 7-6: 11 flat, 10 natural, 01 sharp, 00 double sharp for C D F G and double flat for E A B'
+-- toneOf           'bits 2-0, 0 a rest (nothing else counts) .. octave is 7 less bits 5-3'
+-- noteOf           the note of two bytes, 'Bit 6 is the tie'
+use Prim.Native.Nat.{ℕ, _-_, _/_, _%_}
+use lib.Dec.{eqb}
+use Rattle.meaning.specs.declared.Duration.{Duration}
+use Rattle.meaning.specs.declared.Duration.the-variants.{Whole, Half, Quarter, Eighth, Sixteenth, ThirtySecond, SixtyFourth, UtilityDuration, UtilityVoice, AbsolutePitch}
+use Rattle.meaning.specs.declared.Shape.{Shape}
+use Rattle.meaning.specs.declared.Shape.the-variants.{Plain, Dotted, DoubleDotted, Triplet}
+use Rattle.meaning.specs.declared.Letter.{Letter}
+use Rattle.meaning.specs.declared.Letter.the-variants.{C, D, E, F, G, A, B}
+use Rattle.meaning.specs.declared.Accidental.{Accidental}
+use Rattle.meaning.specs.declared.Accidental.the-variants.{Flat, Natural, Sharp, DoubleSharp, DoubleFlat}
+use Rattle.meaning.specs.declared.Tone.{Tone}
+use Rattle.meaning.specs.declared.Tone.the-variants.{Rest, Sounds}
+use Rattle.meaning.specs.declared.Note.{Note}
+use Rattle.meaning.specs.Pitches.{doubleIsSharp}
+use Rattle.note.specs.declared.first.Length.{Length}
+use Rattle.refusals.specs.Tests.{pick}
+
+abbrev pub shapeOf : ℕ → ℕ → Shape
+shapeOf bit7 bit5 = pick (eqb bit7 0) (pick (eqb bit5 0) Plain Dotted) (pick (eqb bit5 0) Triplet DoubleDotted)
+
+abbrev pub tripletOrPlain : ℕ → Shape
+tripletOrPlain bit7 = pick (eqb bit7 0) Plain Triplet
+
+abbrev pub utilityOf : ℕ → ℕ → Length
+utilityOf bit7 bit5 =
+    pick (eqb bit5 0)
+    (record { duration = UtilityDuration; shape = tripletOrPlain bit7 })
+    (record { duration = UtilityVoice; shape = Plain })
+
+abbrev pub valueOf : ℕ → Duration
+valueOf code =
+    pick (eqb code 2) Whole
+    (pick (eqb code 3) Half
+    (pick (eqb code 4) Quarter
+    (pick (eqb code 5) Eighth
+    (pick (eqb code 6) Sixteenth ThirtySecond))))
+
+abbrev pub lengthOf : ℕ → Length
+lengthOf a =
+    pick (eqb a 0) (record { duration = AbsolutePitch; shape = Plain })
+    (pick (eqb (a / 4 % 8) 0) (record { duration = SixtyFourth; shape = tripletOrPlain (a / 128) })
+    (pick (eqb (a / 4 % 8) 1) (utilityOf (a / 128) (a / 32 % 2))
+    (record { duration = valueOf (a / 4 % 8); shape = shapeOf (a / 128) (a / 32 % 2) })))
+
+abbrev pub letterOf : ℕ → Letter
+letterOf k =
+    pick (eqb k 1) C
+    (pick (eqb k 2) D
+    (pick (eqb k 3) E
+    (pick (eqb k 4) F
+    (pick (eqb k 5) G
+    (pick (eqb k 6) A B)))))
+
+abbrev pub doubleOf : Letter → Accidental
+doubleOf l = pick (doubleIsSharp l) DoubleSharp DoubleFlat
+
+abbrev pub accidentalOf : ℕ → Letter → Accidental
+accidentalOf bits l = pick (eqb bits 3) Flat (pick (eqb bits 2) Natural (pick (eqb bits 1) Sharp (doubleOf l)))
+
+abbrev pub toneOf : ℕ → Tone
+toneOf b =
+    pick (eqb (b % 8) 0) Rest
+    (Sounds (record { letter = letterOf (b % 8); accidental = accidentalOf (b / 64) (letterOf (b % 8)); octave = 7 - b / 8 % 8 }))
+
+abbrev pub noteOf : ℕ → ℕ → Note
+noteOf a b = record { duration = lengthOf a .duration; shape = lengthOf a .shape; tied = eqb (a / 64 % 2) 1; tone = toneOf b }

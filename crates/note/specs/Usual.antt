@@ -1,0 +1,16 @@
+-- Document 01, 'A pair': 'Where several pairs mean one thing the writer uses: 64th with bit 5 set; utility voice with bit 7 clear; rest 00'.
+-- usualFirst    the first byte that the writer has for the note of a first byte with low bits 00
+-- usualSecond   the second byte that the writer has for the tone of a second byte
+use Prim.Native.Nat.{ℕ, _+_, _*_, _/_, _%_}
+use mathlib.Core.Bool.{_&&_}
+use lib.Dec.{eqb}
+use Rattle.refusals.specs.Tests.{pick}
+
+abbrev pub usualFirst : ℕ → ℕ
+usualFirst a =
+    pick (eqb a 0) 0
+    (pick (eqb (a / 4 % 8) 0) (a / 64 * 64 + 32 + a % 32)
+    (pick (eqb (a / 4 % 8) 1 && eqb (a / 32 % 2) 1) (a % 128) a))
+
+abbrev pub usualSecond : ℕ → ℕ
+usualSecond b = pick (eqb (b % 8) 0) 0 b

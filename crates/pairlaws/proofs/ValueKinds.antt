@@ -1,0 +1,121 @@
+-- What is written reads back, for each kind of value: one law a kind, whatever the command.
+-- picked, picked-else   a choice of two spellings
+-- counted-back, phrase-back, at-most-back    the kinds without a sign
+-- single-back, tempo-back, signed-back
+use Prim.Native.Nat.{ℕ, zero, suc, _+_, _*_, _-_, _/_, _%_, _≤_, _<_}
+use mathlib.Core.Path.{_≡_, refl, sym, _∙_, ap, subst}
+use mathlib.Core.Bool.{Bool, true, false, not, _&&_, _||_}
+use native.Mathlib.Omega.{arith}
+use native.Mathlib.Nat.{zero-add}
+use lib.Dec.{T, eqb, leb, ltb, eqb→eq, ltb→lt, lit<}
+use borrow.Author.Tests.{leb-true, leb-false, le-leb, lt-leb, eqb-true}
+use lib.IntN.{ℤ, pos, negsuc}
+use Rattle.refusals.specs.Numbers.{Outcome, numberOf}
+use Rattle.refusals.specs.Numbers.Outcome.{accepted, refused}
+use Rattle.refusals.specs.Tests.{pick}
+use Rattle.meaning.specs.declared.Meaning.{Meaning}
+use Rattle.meaning.specs.Answers.{Bytes}
+use Rattle.meaning.specs.Laws.{both-left, both-right}
+use Rattle.meaning.specs.Every.{every, every-at, all-left, all-right}
+use Rattle.command.specs.Codes as Codes
+use Rattle.command.specs.Codes.{Command, coded, commandAt}
+use Rattle.command.proofs.Table.{command-back}
+use Rattle.spelling.specs.declared.signs.Slot.the-variants.{In, Out}
+use Rattle.spelling.specs.Counts.{pair, noBytes, counted, phrase, alone, joined}
+use Rattle.spelling.specs.Signs.{ofSlot, signedByte}
+use Rattle.spelling.proofs.Steps.{stepped}
+use Rattle.pair.specs.Pairs.{meaningOf}
+use Rattle.pairlaws.specs.Statements.{Good, ReadsBack}
+
+pub picked : (m : Meaning) (t : Bool) (a b : ℕ) → (t ≡ true → Good m a b) → ReadsBack m (pick t (pair a b) noBytes)
+picked m true a b f = f refl
+picked m false a b f = (refl, refl)
+
+pub picked-else : (m : Meaning) (t : Bool) (a b : ℕ) (x : Outcome Bytes) → (t ≡ true → Good m a b) → ReadsBack m x → ReadsBack m (pick t (pair a b) x)
+picked-else m true a b x f g = f refl
+picked-else m false a b x f g = g
+
+pub at-value : (M : ℕ → Meaning) (v k : ℕ) (x y : Outcome Bytes) → ReadsBack (M k) x → ReadsBack (M v) y → ReadsBack (M v) (pick (eqb v k) x y)
+at-value M v k x y f g = go (eqb v k) refl
+  where
+    go : (t : Bool) → eqb v k ≡ t → ReadsBack (M v) (pick t x y)
+    go true e = subst (λ (j : ℕ). ReadsBack (M j) x) (sym (eqb-true v k e)) f
+    go false e = g
+
+-- the second byte's command and value, as a test
+abbrev pub codedIs : Command → ℕ → ℕ → Bool
+codedIs c b v = eqb (Codes.numberOf (coded b .command)) (Codes.numberOf c) && eqb (coded b .value) v && ltb b 256
+
+same-command : (c d : Command) → Codes.numberOf c ≡ Codes.numberOf d → c ≡ d
+same-command c d e = sym (command-back c) ∙ ap commandAt e ∙ command-back d
+
+pub coded-good : (c : Command) (M : ℕ → Meaning) → ((v : ℕ) → Codes.meaningOf c v ≡ accepted (M v))
+    → (b v : ℕ) → T (codedIs c b v) → Good (M v) 1 b
+coded-good c M is b v t =
+    let k = coded b .command in
+    let first = eqb (Codes.numberOf k) (Codes.numberOf c) in
+    let second = eqb (coded b .value) v in
+    let both = all-left (first && second) (ltb b 256) t in
+    let command = same-command k c (eqb→eq (Codes.numberOf k) (Codes.numberOf c) (all-left first second both)) in
+    let value = eqb→eq (coded b .value) v (all-right first second both) in
+    (rw (command, value) (is v), lit< tt, ltb→lt b 256 (all-right (first && second) (ltb b 256) t))
+
+pub counted-back : (c : Command) (M : ℕ → Meaning) → ((v : ℕ) → Codes.meaningOf c v ≡ accepted (M v))
+    → (v most base step : ℕ) → T (every (λ k. codedIs c (base + step * k) k) (most + 1)) → ReadsBack (M v) (counted v most base step)
+counted-back c M is v most base step t =
+    picked (M v) (leb v most) 1 (base + step * v)
+    (λ e. let low = leb-true v most e in
+    coded-good c M is (base + step * v) v (every-at (λ k. codedIs c (base + step * k) k) (most + 1) t v (omega arith)))
+
+pub phrase-back : (c : Command) (M : ℕ → Meaning) → ((v : ℕ) → Codes.meaningOf c v ≡ accepted (M v))
+    → (v low high : ℕ) → T (every (λ k. codedIs c (low + 16 * k) k) 16) → T (every (λ k. codedIs c (high + 16 * (17 + k - 16)) (17 + k)) 7)
+    → ReadsBack (M v) (phrase v low high)
+phrase-back c M is v low high t u =
+    picked-else (M v) (leb v 15) 1 (low + 16 * v) (pick (leb 17 v && leb v 23) (pair 1 (high + 16 * (v - 16))) noBytes)
+    (λ e. let h = leb-true v 15 e in coded-good c M is (low + 16 * v) v (every-at (λ k. codedIs c (low + 16 * k) k) 16 t v (omega arith)))
+    (picked (M v) (leb 17 v && leb v 23) 1 (high + 16 * (v - 16)) upper)
+  where
+    upper : leb 17 v && leb v 23 ≡ true → Good (M v) 1 (high + 16 * (v - 16))
+    upper e =
+        let g = leb-true 17 v (both-left (leb 17 v) (leb v 23) e) in
+        let h = leb-true v 23 (both-right (leb 17 v) (leb v 23) e) in
+        let s : 17 + (v - 17) ≡ v = omega arith in
+        coded-good c M is (high + 16 * (v - 16)) v
+        (rw (s) at (every-at (λ k. codedIs c (high + 16 * (17 + k - 16)) (17 + k)) 7 u (v - 17) (omega arith)))
+
+pub single-back : (M : ℕ → Meaning) (first v most : ℕ) → ((n : ℕ) → n ≤ most → meaningOf first n ≡ accepted (M n))
+    → T (ltb first 256) → T (ltb most 256) → ReadsBack (M v) (alone first v most)
+single-back M first v most is f m =
+    picked (M v) (leb v most) first v
+    (λ e. let low = leb-true v most e in let top = ltb→lt most 256 m in (is v low, ltb→lt first 256 f, omega arith))
+
+pub joined-good : (m : Meaning) (v most base step : ℕ) → v ≤ most → T (ltb (base + step * (most / 256)) 256)
+    → meaningOf (base + step * (v / 256)) (v % 256) ≡ accepted m → Good m (base + step * (v / 256)) (v % 256)
+joined-good m v most base step low top is =
+    (is, stepped (v / 256) (most / 256) base step (omega (arith, low)) (ltb→lt (base + step * (most / 256)) 256 top), omega arith)
+
+pub joined-back : (M : ℕ → Meaning) (v most base step : ℕ) → T (ltb (base + step * (most / 256)) 256)
+    → ((n : ℕ) → n ≤ most → meaningOf (base + step * (n / 256)) (n % 256) ≡ accepted (M n)) → ReadsBack (M v) (joined v most base step)
+joined-back M v most base step top is =
+    picked (M v) (leb v most) (base + step * (v / 256)) (v % 256)
+    (λ e. joined-good (M v) v most base step (leb-true v most e) top (is v (leb-true v most e)))
+
+pub signed-back : (M : ℤ → Meaning) (first below above : ℕ)
+    → ((n : ℕ) → n ≤ above → meaningOf first n ≡ accepted (M (pos n)))
+    → ((n : ℕ) → n + 1 ≤ below → meaningOf first (256 - (n + 1)) ≡ accepted (M (negsuc n)))
+    → T (ltb first 256) → T (ltb above 256) → (z : ℤ) → ReadsBack (M z) (signedByte first z below above)
+signed-back M first below above up down f a (pos n) = go (leb n above) refl
+  where
+    go : (t : Bool) → leb n above ≡ t → ReadsBack (M (pos n)) (ofSlot (λ k. alone first k 255) (pick t (In n) Out))
+    go true e =
+        let low = leb-true n above e in
+        let top = ltb→lt above 256 a in
+        picked (M (pos n)) (leb n 255) first n (λ q. (up n low, ltb→lt first 256 f, omega arith))
+    go false e = (refl, refl)
+signed-back M first below above up down f a (negsuc n) = go (leb (n + 1) below) refl
+  where
+    go : (t : Bool) → leb (n + 1) below ≡ t → ReadsBack (M (negsuc n)) (ofSlot (λ k. alone first k 255) (pick t (In (256 - (n + 1))) Out))
+    go true e =
+        let low = leb-true (n + 1) below e in
+        picked (M (negsuc n)) (leb (256 - (n + 1)) 255) first (256 - (n + 1)) (λ q. (down n low, ltb→lt first 256 f, omega arith))
+    go false e = (refl, refl)
