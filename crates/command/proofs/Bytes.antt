@@ -4,10 +4,10 @@
 use Prim.Native.Nat.{ℕ, _+_, _*_, _-_, _/_, _%_, _<_}
 use mathlib.Core.Path.{_≡_}
 use mathlib.Core.Bool.{Bool, not, _&&_, _||_}
-use lib.Dec.{T, leb, ltb}
-use lib.IntN.{ℤ, pos, negsuc, subℕ}
+use lib.Dec.{leb, ltb}
+use lib.IntN.{pos, negsuc, subℕ}
 use lib.Signed.{leZ}
-use Rattle.meaning.specs.Every.{every, every-at, same, same-equal, sameℤ, sameℤ-equal}
+use Rattle.meaning.specs.Every.{every-at, same, same-equal, sameℤ, sameℤ-equal}
 use Rattle.command.specs.Signs.{signedByte, rtpValue}
 
 abbrev scaRight : ℕ → Bool

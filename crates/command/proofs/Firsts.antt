@@ -4,7 +4,7 @@
 -- isSingle, single-missed     the rows of one byte each: which those are, and that no other fits
 use Prim.Native.Nat.{ℕ, _+_, _*_, _/_, _%_, _<_}
 use mathlib.Core.Path.{_≡_, refl, _∙_}
-use mathlib.Core.Bool.{Bool, true, false, not, _&&_, _||_}
+use mathlib.Core.Bool.{Bool, true, false, _&&_, _||_}
 use mathlib.Core.List.{List, [], _∷_}
 use native.Mathlib.Omega.{arith}
 use native.Mathlib.Decide.{ℕ-discrete}
@@ -18,7 +18,7 @@ use Rattle.refusals.specs.Numbers.Outcome.{accepted}
 use Rattle.refusals.specs.Tests.{pick}
 use Rattle.command.specs.Patterns.{Symbol, O, I, n, byte, fits, number}
 use Rattle.command.specs.Signs.{detuningOf, jifOutcome}
-use Rattle.command.specs.Others.{Row, pulse, single, joined, found, unassigned, joinedOutcome}
+use Rattle.command.specs.Others.{Row, pulse, single, found, unassigned, joinedOutcome}
 
 abbrev arithmetic : List Symbol → (ℕ → Bool) → (ℕ → ℕ) → ℕ → Bool
 arithmetic p test value a = same (fits p a) (test a) && eqb (number p a) (value a)

@@ -8,7 +8,7 @@
 --              result leaves -47 to 47'
 -- jifOutcome   'JIF ten bits, raw above 823 less 1,024 (house), raw 758 to 823 out of range'
 use Prim.Native.Nat.{ℕ, _+_, _*_, _-_, _/_, _%_}
-use mathlib.Core.Bool.{Bool, _&&_, _||_}
+use mathlib.Core.Bool.{_&&_}
 use lib.Dec.{eqb, leb, ltb}
 use lib.IntN.{ℤ, pos, negsuc, subℕ, _+ℤ_, _*ℤ_}
 use lib.Signed.{leZ}

@@ -6,6 +6,7 @@ use meaning::Reading;
 
 mod codes;
 mod others;
+mod seconds;
 mod signs;
 
 // internal: the command of a pair whose first byte's low bits are not 00, or 27 or 28.

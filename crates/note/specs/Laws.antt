@@ -1,6 +1,7 @@
 -- Laws of a note's two bytes.
 -- shape-low, accidental-low, letter-low   the bounds of what the bytes are made of
 -- Low, length-low      an untied note's first byte is at most 188, so the tie's 64 fits
+-- pitchByte, pitch-reads   the second byte of a pitch in the tables reads as it
 -- written-note-reads   what is written reads back, from two bytes of which the first has low bits 00
 -- read-note-writes     what is read is written as document 01 says that the writer does
 use Prim.Native.Nat.{ℕ, _+_, _*_, _-_, _/_, _%_, _≤_, _<_}
@@ -203,10 +204,10 @@ accidental-back l DoubleFlat e = rw (not-true (doubleIsSharp l) e)
 octave-bits : (b top middle low : ℕ) → b ≡ 64 * top + 8 * middle + low → middle ≤ 7 → low ≤ 7 → b / 8 % 8 ≡ middle
 octave-bits b top middle low e m l = omega arith
 
-abbrev pitchByte : Pitch → ℕ
+abbrev pub pitchByte : Pitch → ℕ
 pitchByte p = accidentalBits (p .accidental) + 8 * (7 - p .octave) + letterNumber (p .letter)
 
-pitch-reads : (p : Pitch) → inTables p ≡ true → (toneOf (pitchByte p) ≡ Sounds p) × (pitchByte p < 256)
+pub pitch-reads : (p : Pitch) → inTables p ≡ true → (toneOf (pitchByte p) ≡ Sounds p) × (pitchByte p < 256)
 pitch-reads p e =
     let octave = octave-low p e in
     let high = accidental-high (p .accidental) in

@@ -2,15 +2,15 @@
 -- startsValue, joined-meaning   first bytes in which a value begins, but for P-W, and the rows that rule them
 -- pw-meaning                    P-W's first bytes
 use Prim.Native.Nat.{ℕ, _+_, _*_, _/_, _%_, _<_}
-use mathlib.Core.Path.{_≡_, sym, _∙_}
+use mathlib.Core.Path.{_≡_}
 use mathlib.Core.Bool.{Bool, true, false, not, _&&_, _||_}
 use native.Mathlib.Omega.{arith}
 use lib.Dec.{T, eqb}
-use borrow.Author.Tests.{eq-eqb, ne-eqb, not-true}
+use borrow.Author.Tests.{ne-eqb, not-true}
 use Rattle.refusals.specs.Numbers.Outcome.{accepted}
 use Rattle.meaning.specs.declared.Meaning.the-variants.{Pw}
 use Rattle.meaning.specs.Laws.{both-left, both-right}
-use Rattle.meaning.specs.Every.{every, every-at, same-equal}
+use Rattle.meaning.specs.Every.{every-at}
 use Rattle.command.specs.Others.{single, found, joinedOutcome}
 use Rattle.command.proofs.Firsts.{isOneOf, singles, pulse-as, single-missed}
 use Rattle.pair.specs.Pairs.{meaningOf}

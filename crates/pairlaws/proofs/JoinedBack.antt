@@ -1,13 +1,13 @@
 -- What is written reads back, for values that begin in the first byte.
 -- pw-written, ms-written, por-written   P-W, MS# and POR
 -- jif-back, dtn-back                    JIF and DTN, of either sign
-use Prim.Native.Nat.{ℕ, _+_, _*_, _-_, _/_, _%_, _≤_, _<_}
+use Prim.Native.Nat.{ℕ, _+_, _*_, _-_, _/_, _%_, _≤_}
 use mathlib.Core.Path.{_≡_, refl, _∙_, ap}
 use mathlib.Core.Bool.{Bool, true, false}
 use native.Mathlib.Omega.{arith}
-use lib.Dec.{eqb, leb}
-use lib.IntN.{ℤ, pos, negsuc, subℕ}
-use borrow.Author.Tests.{eq-eqb, ne-eqb, lt-ltb, le-ltb, le-leb, lt-leb, leb-true}
+use lib.Dec.{leb}
+use lib.IntN.{ℤ, pos, negsuc}
+use borrow.Author.Tests.{eq-eqb, ne-eqb, lt-ltb, le-ltb, lt-leb, leb-true}
 use Rattle.refusals.specs.Numbers.Outcome.{accepted}
 use Rattle.refusals.specs.Tests.{pick}
 use Rattle.meaning.specs.declared.Meaning.the-variants.{Pw, Ms, Jif, Dtn, Por}
@@ -17,7 +17,7 @@ use Rattle.spelling.specs.declared.signs.Slot.the-variants.{In, Out}
 use Rattle.spelling.specs.Counts.{pair, noBytes, joined}
 use Rattle.spelling.specs.Signs.{ofSlot, jif, dtn}
 use Rattle.pair.specs.Pairs.{meaningOf}
-use Rattle.pairlaws.specs.Statements.{Good, ReadsBack}
+use Rattle.pairlaws.specs.Statements.{ReadsBack}
 use Rattle.pairlaws.proofs.ValueKinds.{picked, joined-good}
 use Rattle.pairlaws.proofs.FirstBytes.{joined-meaning, pw-meaning}
 

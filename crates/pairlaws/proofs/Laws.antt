@@ -4,15 +4,15 @@
 -- read-written         what a pair means is written so
 -- unwritten-none, none-unwritten   43 exactly where no pair has the meaning
 -- same-usual, usual-means          two pairs mean the same exactly where document 01 names one pair for both
-use Prim.Native.Nat.{ℕ, _<_}
-use mathlib.Core.Path.{_≡_, refl, sym, _∙_, subst}
+use Prim.Native.Nat.{ℕ}
+use mathlib.Core.Path.{_≡_, sym, _∙_, subst}
 use native.Mathlib.Omega.{arith}
 use Rattle.refusals.specs.Numbers.{Outcome}
 use Rattle.refusals.specs.Numbers.Outcome.{accepted, refused}
 use Rattle.meaning.specs.declared.Meaning.{Meaning}
 use Rattle.meaning.specs.Answers.{Bytes}
 use Rattle.spelling.specs.Counts.{pair, noBytes}
-use Rattle.pair.specs.Pairs.{meaningOf, spellingOf}
+use Rattle.pair.specs.Pairs.{spellingOf}
 use Rattle.pairlaws.specs.Usual.{usual}
 use Rattle.pairlaws.specs.Statements.{Good, ReadsBack, WrittenAs}
 use Rattle.pairlaws.proofs.Written.{reads-back}

@@ -5,3 +5,4 @@ pub mod SignedBack
 pub mod Written
 pub mod Read
 pub mod Laws
+pub mod Rows

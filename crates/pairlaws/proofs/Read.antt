@@ -2,26 +2,25 @@
 -- written-as   for every pair of bytes
 use Prim.Native.Nat.{ℕ, _+_, _*_, _-_, _/_, _%_, _≤_, _<_}
 use mathlib.Core.Path.{_≡_, refl, sym, _∙_, ap, subst}
-use mathlib.Core.Bool.{Bool, true, false, not, _&&_, _||_}
+use mathlib.Core.Bool.{Bool, true, false, _&&_, _||_}
 use mathlib.Core.List.{List, [], _∷_}
 use native.Mathlib.Omega.{arith}
 use native.Mathlib.Decide.{ℕ-discrete, decLt}
-use lib.Dec.{T, eqb, leb, ltb, eqb→eq}
-use lib.IntN.{ℤ, pos, negsuc, subℕ}
+use lib.Dec.{T, eqb, eqb→eq}
+use lib.IntN.{pos, negsuc, subℕ}
 use borrow.Author.Tests.{eq-eqb, ne-eqb, eqb-true, eqb-false, lt-ltb, le-ltb, le-leb, lt-leb}
 use Rattle.refusals.specs.Numbers.{Outcome}
 use Rattle.refusals.specs.Numbers.Outcome.{accepted, refused}
-use Rattle.refusals.specs.Tests.{pick}
 use Rattle.meaning.specs.declared.Meaning.{Meaning}
 use Rattle.meaning.specs.declared.Meaning.the-variants as M
-use Rattle.meaning.specs.declared.Meaning.the-variants.{Pw, Ms, Jif, Dtn, Por}
+use Rattle.meaning.specs.declared.Meaning.the-variants.{Pw, Dtn}
 use Rattle.meaning.specs.Answers.{Bytes}
 use Rattle.meaning.specs.Every.{every, every-at, all-left, all-right}
 use Rattle.note.specs.Reading.{noteOf}
 use Rattle.note.specs.Usual.{usualFirst, usualSecond}
 use Rattle.note.specs.Laws.{read-note-writes}
 use Rattle.command.specs.Signs.{detuningOf, jifOutcome}
-use Rattle.command.specs.Others.{unassigned, joinedOutcome}
+use Rattle.command.specs.Others.{joinedOutcome}
 use Rattle.command.proofs.Firsts.{isOneOf, singles, joined-as}
 use Rattle.spelling.specs.Counts.{joined}
 use Rattle.pair.specs.Pairs.{meaningOf, spellingOf}

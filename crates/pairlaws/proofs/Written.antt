@@ -1,37 +1,31 @@
 -- What is written reads back as what was to be written; where nothing is written the answer is 43, place 0. By cases of a meaning.
 -- reads-back   for every meaning
-use Prim.Native.Nat.{ℕ, zero, suc, _+_, _*_, _-_, _/_, _%_, _≤_, _<_}
-use mathlib.Core.Path.{_≡_, refl, sym, _∙_, ap, subst}
-use mathlib.Core.Bool.{Bool, true, false, not, _&&_, _||_}
+use Prim.Native.Nat.{ℕ, _+_, _-_, _%_, _<_}
+use mathlib.Core.Path.{_≡_, refl, ap}
+use mathlib.Core.Bool.{Bool, true, false, _||_}
 use native.Mathlib.Omega.{arith}
 use native.Mathlib.Nat.{zero-add}
-use lib.Dec.{T, eqb, leb, ltb, eqb→eq, lit<}
-use lib.IntN.{ℤ, pos, negsuc, subℕ}
-use borrow.Author.Tests.{eq-eqb, ne-eqb, lt-ltb, le-ltb, le-leb, lt-leb, leb-true, ltb-false, eqb-false}
-use Rattle.refusals.specs.Numbers.{Outcome}
-use Rattle.refusals.specs.Numbers.Outcome.{accepted, refused}
+use lib.Dec.{T, eqb, ltb, eqb→eq, lit<}
+use borrow.Author.Tests.{eq-eqb, le-leb, ltb-false, eqb-false}
+use Rattle.refusals.specs.Numbers.Outcome.{accepted}
 use Rattle.refusals.specs.Tests.{pick}
 use Rattle.meaning.specs.declared.Bump.the-variants.{Up, Down}
 use Rattle.meaning.specs.declared.Note.{Note}
 use Rattle.meaning.specs.declared.Meaning.{Meaning}
 use Rattle.meaning.specs.declared.Meaning.the-variants as M
 use Rattle.meaning.specs.declared.Meaning.the-variants.{Dcy, Rup, Cal, Bmp, Flt, Rng, Snc, Fx, Def, Atk, Sus, Lfo, Pv, Rdn, Wav, Fm, Rls, Res, ThreeOff, Vol, Tal, End, Hlt, Src, Dst, Pw, Tem, Utl, Pnt, Hed, Flg, Ps, Fs, Sca, Vdp, Vrt, Aut, Tps, Aux, Pvd, Pvr, Max, Utv, Fc, Rtp, Hld, Ms, Jif, Dtn, Por}
-use Rattle.meaning.specs.Answers.{Bytes}
-use Rattle.meaning.specs.Every.{every, every-at, all-left, all-right, sameℤ, sameℤ-equal}
+use Rattle.meaning.specs.Every.{every-at}
 use Rattle.note.specs.declared.Byte.{Byte}
 use Rattle.note.specs.declared.Byte.the-variants.{Is, None}
 use Rattle.note.specs.Reading.{noteOf}
 use Rattle.note.specs.Writing.{lengthByte, tiedByte, toneByte, both, noteSpelling}
 use Rattle.note.specs.Laws.{written-note-reads}
 use Rattle.command.specs.Codes.{DCY, RUP, CAL, DEF, ATK, SUS, LFO, RDN, WAV, F-M, RLS, RES, VOL, SRC}
-use Rattle.command.specs.Signs.{signedByte, tpsValue, rtpValue}
 use Rattle.command.specs.Others.{tempoOf}
-use Rattle.command.proofs.Firsts.{joined-as}
 use Rattle.spelling.specs.Counts.{pair, noBytes, target, tempo}
-use Rattle.spelling.specs.Signs.{jif, dtn, tps, rtp}
-use Rattle.pair.specs.Pairs.{meaningOf, spellingOf}
-use Rattle.pairlaws.specs.Statements.{Good, ReadsBack}
-use Rattle.pairlaws.proofs.ValueKinds.{picked, picked-else, at-value, counted-back, phrase-back, single-back, joined-good, joined-back, signed-back}
+use Rattle.pair.specs.Pairs.{spellingOf}
+use Rattle.pairlaws.specs.Statements.{ReadsBack}
+use Rattle.pairlaws.proofs.ValueKinds.{at-value, counted-back, phrase-back, single-back, joined-back, signed-back}
 use Rattle.pairlaws.proofs.JoinedBack.{pw-written, ms-written, por-written, jif-back, dtn-back}
 use Rattle.pairlaws.proofs.SignedBack.{byte-up, byte-down, sca-up, sca-down, tps-back, rtp-back}
 

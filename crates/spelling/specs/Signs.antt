@@ -6,7 +6,6 @@
 -- tpsByte, tps 'TPS by 004', zero 0E
 -- rtpByte, rtp 'RTP with octaves and remainder of one sign, zero 5B'
 use Prim.Native.Nat.{ℕ, _+_, _*_, _-_, _/_, _%_}
-use mathlib.Core.Bool.{Bool, true, false}
 use lib.Dec.{leb, ltb}
 use lib.IntN.{ℤ}
 use Rattle.signed.specs.declared.Parts.{Parts}

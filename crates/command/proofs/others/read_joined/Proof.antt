@@ -1,6 +1,4 @@
-use mathlib.Core.Path.{_∙_, sym}
-use native.Mathlib.Omega.{arith}
-use borrow.Author.Tests.{ne-eqb, eq-eqb}
+use borrow.Author.Tests.{ne-eqb}
 use borrow.Author.Needs.{needs}
 use Rattle.signed.specs.Laws.{kept}
 use Rattle.command.proofs.Firsts.{joined-as}

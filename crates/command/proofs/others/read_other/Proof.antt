@@ -1,5 +1,5 @@
 -- One line an arm of one first byte; the others by the rows whose value begins in the first byte.
-use mathlib.Core.Path.{_∙_, sym}
+use mathlib.Core.Path.{sym}
 use native.Mathlib.Nat.{zero-add}
 use borrow.Author.Tests.{ne-eqb}
 use borrow.Author.Needs.{needs}

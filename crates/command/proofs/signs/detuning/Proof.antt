@@ -1,4 +1,4 @@
-use borrow.Author.Tests.{eq-eqb, ne-eqb}
+use borrow.Author.Tests.{ne-eqb}
 use borrow.Author.Needs.{needs}
 use Rattle.command.proofs.signs.detuning.Statement.{statement}
 use Rattle.command.proofs.signs.detuning.Tie as tie

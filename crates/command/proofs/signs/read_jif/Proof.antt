@@ -1,4 +1,3 @@
-use mathlib.Core.Path.{_≡_, _∙_, sym, ap}
 use borrow.Author.Tests.{le-leb, lt-leb}
 use borrow.Author.Needs.{needs}
 use Rattle.signed.specs.Laws.{kept}
@@ -9,10 +8,10 @@ returns : tie.Need-returns
 returns c = rw (le-leb _ _ (c .before .if1 .taken), kept (c .less .result) (c .less .ok), c .less .ensures)
 
 returns-2 : tie.Need-returns-2
-returns-2 c = rw (lt-leb _ _ (c .before .before .if1 .left), le-leb _ _ (c .before .if2 .taken), c .out-of-range .ensures)
+returns-2 c = rw (lt-leb _ _ (c .before .before .if1 .left), le-leb (c .before .before .before .args .n) 823 (search needs), c .out-of-range .ensures)
 
 returns-3 : tie.Need-returns-3
-returns-3 c = rw (lt-leb _ _ (c .before .before .if1 .left), lt-leb _ _ (c .before .if2 .left), kept (c .less2 .result) (c .less2 .ok), c .less2 .ensures)
+returns-3 c = rw (lt-leb _ _ (c .before .before .if1 .left), lt-leb (c .before .before .before .args .n) 823 (search needs), kept (c .less2 .result) (c .less2 .ok), c .less2 .ensures)
 
 pub read-jif-spec : {M : Type 1} → statement M
 read-jif-spec = tie.close (tie.spec (λ c κs. search needs) returns (λ c κs. search needs) returns-2 (λ c κs. search needs) returns-3)

@@ -1,6 +1,5 @@
 use borrow.Author.Tests.{lt-ltb, le-ltb}
 use borrow.Author.Needs.{needs}
-use Rattle.signed.specs.Laws.{kept}
 use Rattle.command.proofs.signs.signed_byte.Statement.{statement}
 use Rattle.command.proofs.signs.signed_byte.Tie as tie
 

@@ -4,10 +4,10 @@ use Rattle.spelling.proofs.signs.dtn_of.Statement.{statement}
 use Rattle.spelling.proofs.signs.dtn_of.Tie as tie
 
 returns : tie.Need-returns
-returns c = rw (c .before .before .if1 .taken, le-leb _ _ (c .before .if2 .taken), c .joined .ensures)
+returns c = rw (c .before .before .if1 .taken, le-leb (c .before .before .before .args .parts .size) 2048 (search needs), c .joined .ensures)
 
 returns-2 : tie.Need-returns-2
-returns-2 c = rw (c .before .before .if1 .taken, lt-leb _ _ (c .before .if2 .left), c .none .ensures)
+returns-2 c = rw (c .before .before .if1 .taken, lt-leb (c .before .before .before .args .parts .size) 2048 (search needs), c .none .ensures)
 
 returns-3 : tie.Need-returns-3
 returns-3 c = rw (c .joined2 .ensures, c .before .before .if1 .left, le-leb _ _ (c .before .if3 .taken))
