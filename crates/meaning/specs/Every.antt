@@ -1,11 +1,14 @@
 -- A test of every number below a bound, computed once, and what it shows at each of them.
 -- every, every-at     the test passes at each number below n, so at k
 -- same, same-equal    two truth values compared, and so two signed numbers (sameℤ, sameℤ-equal)
+-- true-of             a test that passes is true
 -- all-left, all-right what a test of two things shows
+-- neither-left, neither-right   what it shows that neither of two holds
+-- implied             a test of a thing wherever another holds
 -- each, each-at       the same of a table: at each place and its entry
 use Prim.Native.Nat.{ℕ, zero, suc, _+_, _<_}
 use mathlib.Core.Path.{_≡_, refl, ap, subst}
-use mathlib.Core.Bool.{Bool, true, false, not, _&&_}
+use mathlib.Core.Bool.{Bool, true, false, not, _&&_, _||_}
 use mathlib.Core.List.{List, [], _∷_}
 use native.Mathlib.Omega.{arith}
 use native.Mathlib.Nat.{not-suc-le-zero, le-of-suc-le-suc}
@@ -17,6 +20,10 @@ use lib.ListN.{length, getD}
 abbrev pub every : (ℕ → Bool) → ℕ → Bool
 every f zero = true
 every f (suc n) = f n && every f n
+
+pub true-of : (a : Bool) → T a → a ≡ true
+true-of true t = refl
+true-of false t = absurd t
 
 pub all-left : (a b : Bool) → T (a && b) → T a
 all-left true b t = tt
@@ -33,6 +40,18 @@ every-at f (suc n) t k h =
       | yes p ↦ every-at f n (all-right (f n) (every f n) t) k p
       | no q ↦ subst (λ (j : ℕ). T (f j)) (omega arith) (all-left (f n) (every f n) t)
     ]
+
+pub neither-left : (a b : Bool) → a || b ≡ false → a ≡ false
+neither-left true b e = e
+neither-left false b e = refl
+
+pub neither-right : (a b : Bool) → a || b ≡ false → b ≡ false
+neither-right true b e = absurd (let z : _≡_ {A = ℕ} 0 1 = cc in omega arith)
+neither-right false b e = e
+
+pub implied : (a b : Bool) → T (not a || b) → a ≡ true → T b
+implied true b t e = t
+implied false b t e = absurd (let z : _≡_ {A = ℕ} 0 1 = cc in omega arith)
 
 abbrev pub same : Bool → Bool → Bool
 same true b = b

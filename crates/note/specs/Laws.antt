@@ -23,7 +23,7 @@ use Rattle.meaning.specs.declared.Tone.{Tone}
 use Rattle.meaning.specs.declared.Tone.the-variants.{Rest, Sounds}
 use Rattle.meaning.specs.declared.Note.{Note}
 use Rattle.meaning.specs.Answers.{Bytes}
-use Rattle.meaning.specs.Every.{every, every-at, all-left, all-right}
+use Rattle.meaning.specs.Every.{every, every-at, all-left, all-right, implied}
 use Rattle.meaning.specs.Pitches.{hasAccidental, inTables, doubleIsSharp}
 use Rattle.meaning.specs.Laws.{both-left, octave-low}
 use Rattle.note.specs.declared.Byte.{Byte}
@@ -117,15 +117,10 @@ firsts = tt
 seconds : T (every secondTest 256)
 seconds = tt
 
-either-holds : (a b : Bool) → a ≡ true → T (not a || b) → T b
-either-holds true b e t = t
-either-holds false b e t = absurd (let z : _≡_ {A = ℕ} 0 1 = cc in omega arith)
-
 first-again : (a : ℕ) → a < 256 → a % 4 ≡ 0 → firstAgain a ≡ Is (usualFirst a)
 first-again a low e =
     byte-is (firstAgain a) (usualFirst a)
-    (either-holds (eqb (a % 4) 0) (isByte (firstAgain a) (usualFirst a)) (rw (e))
-    (every-at firstTest 256 firsts a low))
+    (implied (eqb (a % 4) 0) (isByte (firstAgain a) (usualFirst a)) (every-at firstTest 256 firsts a low) (rw (e)))
 
 second-again : (b : ℕ) → b < 256 → secondAgain b ≡ Is (usualSecond b)
 second-again b low =

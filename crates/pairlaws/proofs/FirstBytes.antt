@@ -1,16 +1,17 @@
 -- The meaning of a pair by the kind of its first byte.
 -- startsValue, joined-meaning   first bytes in which a value begins, but for P-W, and the rows that rule them
 -- pw-meaning                    P-W's first bytes
+-- other-meaning                 every first byte that is none of the others
 use Prim.Native.Nat.{ℕ, _+_, _*_, _/_, _%_, _<_}
 use mathlib.Core.Path.{_≡_}
 use mathlib.Core.Bool.{Bool, true, false, not, _&&_, _||_}
 use native.Mathlib.Omega.{arith}
-use lib.Dec.{T, eqb}
+use lib.Dec.{eqb}
 use borrow.Author.Tests.{ne-eqb, not-true}
 use Rattle.refusals.specs.Numbers.Outcome.{accepted}
 use Rattle.meaning.specs.declared.Meaning.the-variants.{Pw}
 use Rattle.meaning.specs.Laws.{both-left, both-right}
-use Rattle.meaning.specs.Every.{every-at}
+use Rattle.meaning.specs.Every.{every-at, true-of, implied}
 use Rattle.command.specs.Others.{single, found, joinedOutcome}
 use Rattle.command.proofs.Firsts.{isOneOf, singles, pulse-as, single-missed}
 use Rattle.pair.specs.Pairs.{meaningOf}
@@ -22,14 +23,9 @@ startsValue a = eqb (a % 64) 0x1E || eqb (a % 64) 0x3E || eqb (a % 16) 0x0A || e
 abbrev otherwise : ℕ → Bool
 otherwise a = not (eqb (a % 4) 0) && not (eqb a 1) && not (eqb (a % 16) 2) && not (isOneOf singles a)
 
-implied : (a b : Bool) → T (not a || b) → a ≡ true → b ≡ true
-implied true true t e = e
-implied true false t e = absurd t
-implied false b t e = absurd (let z : _≡_ {A = ℕ} 0 1 = cc in omega arith)
-
 pub joined-meaning : (a b : ℕ) → a < 256 → startsValue a ≡ true → meaningOf a b ≡ joinedOutcome a b
 joined-meaning a b h e =
-    let all = implied (startsValue a) (otherwise a) (every-at (λ k. not (startsValue k) || otherwise k) 256 tt a h) e in
+    let all = true-of (otherwise a) (implied (startsValue a) (otherwise a) (every-at (λ k. not (startsValue k) || otherwise k) 256 tt a h) e) in
     let three = both-left (not (eqb (a % 4) 0) && not (eqb a 1) && not (eqb (a % 16) 2)) (not (isOneOf singles a)) all in
     let two = both-left (not (eqb (a % 4) 0) && not (eqb a 1)) (not (eqb (a % 16) 2)) three in
     let note = not-true (eqb (a % 4) 0) (both-left (not (eqb (a % 4) 0)) (not (eqb a 1)) two) in

@@ -15,7 +15,7 @@ use Rattle.meaning.specs.declared.Meaning.{Meaning}
 use Rattle.meaning.specs.declared.Meaning.the-variants as M
 use Rattle.meaning.specs.declared.Meaning.the-variants.{Pw, Dtn}
 use Rattle.meaning.specs.Answers.{Bytes}
-use Rattle.meaning.specs.Every.{every, every-at, all-left, all-right}
+use Rattle.meaning.specs.Every.{every, every-at, all-left, all-right, neither-left, neither-right}
 use Rattle.note.specs.Reading.{noteOf}
 use Rattle.note.specs.Usual.{usualFirst, usualSecond}
 use Rattle.note.specs.Laws.{read-note-writes}
@@ -75,14 +75,6 @@ plain-usual a b note tps rtp = rw (ne-eqb (a % 4) 0 note, ne-eqb a 0xA6 tps, ne-
 joined-writes : (v most base step a b : ℕ) → v ≤ most → base + step * (v / 256) ≡ a → v % 256 ≡ b
     → joined v most base step ≡ accepted (record { first = a; second = b })
 joined-writes v most base step a b low first second = rw (le-leb v most low, first, second)
-
-first-false : (a b : Bool) → a || b ≡ false → a ≡ false
-first-false true b e = e
-first-false false b e = refl
-
-second-false : (a b : Bool) → a || b ≡ false → b ≡ false
-second-false true b e = absurd (let z : _≡_ {A = ℕ} 0 1 = cc in omega arith)
-second-false false b e = e
 
 -- what is refused is not written, so nothing is to be shown
 with-meaning : (a b : ℕ) (o : Outcome Meaning) → meaningOf a b ≡ o → WrittenAs a b o → WrittenAs a b (meaningOf a b)
@@ -173,8 +165,8 @@ module _ (a b : ℕ) (ha : a < 256) (hb : b < 256) where
       elim (ℕ-discrete (a % 16) 2) [
         | yes pw ↦ with-meaning a b (accepted (Pw (a / 16 * 256 + b))) (pw-meaning a b ha pw) (pw-written-as pw)
         | no q ↦
-            with-meaning a b (joinedOutcome a b) (other-meaning a b ha note (eqb-false a 1 (first-false (eqb a 1) (isOneOf singles a) e)) q (second-false (eqb a 1) (isOneOf singles a) e))
-            (joined-written note (second-false (eqb a 1) (isOneOf singles a) e))
+            with-meaning a b (joinedOutcome a b) (other-meaning a b ha note (eqb-false a 1 (neither-left (eqb a 1) (isOneOf singles a) e)) q (neither-right (eqb a 1) (isOneOf singles a) e))
+            (joined-written note (neither-right (eqb a 1) (isOneOf singles a) e))
       ]
 
   pub written-as : WrittenAs a b (meaningOf a b)

@@ -7,7 +7,6 @@ use Prim.Native.Nat.{ℕ, _+_, _%_, _<_, _≤_}
 use mathlib.Core.Path.{_≡_, subst}
 use mathlib.Core.Bool.{Bool, true, false, not, _&&_, _||_}
 use mathlib.Core.List.{List, [], _∷_, _++_}
-use native.Mathlib.Omega.{arith}
 use lib.Dec.{T, eqb, leb, leb→le, eqb→eq}
 use lib.IntN.{pos, negsuc}
 use lib.Signed.{leZ}
@@ -15,7 +14,7 @@ use Rattle.meaning.specs.declared.Pitch.{Pitch}
 use Rattle.meaning.specs.declared.Tone.{Tone}
 use Rattle.meaning.specs.declared.Tone.the-variants.{Rest, Sounds}
 use Rattle.meaning.specs.Pitches.{inTables, halfStep}
-use Rattle.meaning.specs.Every.{every-at}
+use Rattle.meaning.specs.Every.{every-at, implied}
 use Rattle.note.specs.Reading.{toneOf}
 use Rattle.note.specs.Laws.{pitchByte, pitch-reads}
 use Rattle.command.specs.Patterns.{fits}
@@ -47,13 +46,9 @@ firsts-apart a h = leb→le (fitting others a) 1 (every-at (λ k. leb (fitting o
 abbrev elsewhere : ℕ → Bool
 elsewhere a = not (eqb (a % 4) 0 || eqb a 1) || eqb (fitting others a) 0
 
-given : (t u : Bool) → t ≡ true → T (not t || u) → T u
-given true u e t = t
-given false u e t = absurd (let z : _≡_ {A = ℕ} 0 1 = cc in omega arith)
-
 pub firsts-elsewhere : (a : ℕ) → a < 256 → eqb (a % 4) 0 || eqb a 1 ≡ true → fitting others a ≡ 0
 firsts-elsewhere a h e =
-    eqb→eq (fitting others a) 0 (given (eqb (a % 4) 0 || eqb a 1) (eqb (fitting others a) 0) e (every-at elsewhere 256 tt a h))
+    eqb→eq (fitting others a) 0 (implied (eqb (a % 4) 0 || eqb a 1) (eqb (fitting others a) 0) (every-at elsewhere 256 tt a h) e)
 
 abbrev pub between : Pitch → Bool
 between p = leZ (negsuc 0) (halfStep p) && leZ (halfStep p) (pos 96)

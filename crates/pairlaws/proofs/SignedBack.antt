@@ -15,16 +15,12 @@ use Rattle.refusals.specs.Numbers.Outcome.{accepted}
 use Rattle.refusals.specs.Tests.{pick}
 use Rattle.meaning.specs.declared.Meaning.{Meaning}
 use Rattle.meaning.specs.declared.Meaning.the-variants.{Sca, Tps, Rtp}
-use Rattle.meaning.specs.Every.{every, every-at, all-left, all-right, sameℤ, sameℤ-equal}
+use Rattle.meaning.specs.Every.{every, every-at, true-of, all-left, all-right, sameℤ, sameℤ-equal}
 use Rattle.command.specs.Signs.{signedByte, tpsValue, rtpValue}
 use Rattle.spelling.specs.Counts.{pair, noBytes}
 use Rattle.spelling.specs.Signs.{tps, rtp}
 use Rattle.pair.specs.Pairs.{meaningOf}
 use Rattle.pairlaws.specs.Statements.{Good, ReadsBack}
-
-true-of : (a : Bool) → T a → a ≡ true
-true-of true t = refl
-true-of false t = absurd t
 
 pub byte-up : (n : ℕ) → n ≤ 127 → signedByte n ≡ pos n
 byte-up n h = sameℤ-equal (signedByte n) (pos n) (every-at (λ k. sameℤ (signedByte k) (pos k)) 128 tt n (omega arith))

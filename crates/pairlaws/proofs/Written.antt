@@ -14,7 +14,7 @@ use Rattle.meaning.specs.declared.Note.{Note}
 use Rattle.meaning.specs.declared.Meaning.{Meaning}
 use Rattle.meaning.specs.declared.Meaning.the-variants as M
 use Rattle.meaning.specs.declared.Meaning.the-variants.{Dcy, Rup, Cal, Bmp, Flt, Rng, Snc, Fx, Def, Atk, Sus, Lfo, Pv, Rdn, Wav, Fm, Rls, Res, ThreeOff, Vol, Tal, End, Hlt, Src, Dst, Pw, Tem, Utl, Pnt, Hed, Flg, Ps, Fs, Sca, Vdp, Vrt, Aut, Tps, Aux, Pvd, Pvr, Max, Utv, Fc, Rtp, Hld, Ms, Jif, Dtn, Por}
-use Rattle.meaning.specs.Every.{every-at}
+use Rattle.meaning.specs.Every.{every-at, neither-left, neither-right}
 use Rattle.note.specs.declared.Byte.{Byte}
 use Rattle.note.specs.declared.Byte.the-variants.{Is, None}
 use Rattle.note.specs.Reading.{noteOf}
@@ -28,14 +28,6 @@ use Rattle.pairlaws.specs.Statements.{ReadsBack}
 use Rattle.pairlaws.proofs.ValueKinds.{at-value, counted-back, phrase-back, single-back, joined-back, signed-back}
 use Rattle.pairlaws.proofs.JoinedBack.{pw-written, ms-written, por-written, jif-back, dtn-back}
 use Rattle.pairlaws.proofs.SignedBack.{byte-up, byte-down, sca-up, sca-down, tps-back, rtp-back}
-
-left-false : (a b : Bool) → a || b ≡ false → a ≡ false
-left-false true b e = e
-left-false false b e = refl
-
-untaken : (a b : Bool) → a || b ≡ false → b ≡ false
-untaken true b e = absurd (let z : _≡_ {A = ℕ} 0 1 = cc in omega arith)
-untaken false b e = e
 
 note-back : (n : Note) → ReadsBack (M.Note n) (noteSpelling n)
 note-back n =
@@ -61,8 +53,8 @@ tempo-back v = go (eqb v 0 || ltb 256 v) refl
     go : (t : Bool) → eqb v 0 || ltb 256 v ≡ t → ReadsBack (Tem v) (pick t noBytes (pair 0x06 (v % 256)))
     go true e = (refl, refl)
     go false e =
-        let none = left-false (eqb v 0) (ltb 256 v) e in
-        let top = ltb-false 256 v (untaken (eqb v 0) (ltb 256 v) e) in
+        let none = neither-left (eqb v 0) (ltb 256 v) e in
+        let top = ltb-false 256 v (neither-right (eqb v 0) (ltb 256 v) e) in
         let some : v ≡ 0 → ⊥ = eqb-false v 0 none in
         let s : v - 1 + 1 ≡ v = omega (arith, some) in
         let r : T (eqb (tempoOf (v % 256)) v) = rw (s) at (every-at (λ k. eqb (tempoOf ((k + 1) % 256)) (k + 1)) 256 tt (v - 1) (omega arith)) in
