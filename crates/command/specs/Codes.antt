@@ -5,7 +5,6 @@
 -- rows            the table
 -- Coded, codedBy, coded   a second byte's command and value: those of the row that it fits
 -- bumpOf, meaningOf       what a command and its value mean
--- numberOf, commandAt     the commands by number, as the code's table has them
 -- secondOutcome   the meaning of 01 and a second byte, or 27
 use Prim.Native.Nat.{ℕ, _+_}
 use mathlib.Core.Bool.{Bool, _&&_}
@@ -15,8 +14,7 @@ use Rattle.meaning.specs.declared.Bump.{Bump}
 use Rattle.meaning.specs.declared.Bump.the-variants.{Up, Down}
 use Rattle.meaning.specs.declared.Meaning.{Meaning}
 use Rattle.meaning.specs.declared.Meaning.the-variants.{Dcy, Rup, Cal, Bmp, Flt, Rng, Snc, Fx, Def, Atk, Sus, Lfo, Pv, Rdn, Wav, Fm, Rls, Res, ThreeOff, Vol, Tal, End, Hlt, Src, Dst}
-use Rattle.refusals.specs.Numbers as Numbers
-use Rattle.refusals.specs.Numbers.{Outcome, unassignedPair}
+use Rattle.refusals.specs.Numbers.{Outcome, numberOf, unassignedPair}
 use Rattle.refusals.specs.Numbers.Outcome.{accepted, refused}
 use Rattle.refusals.specs.Tests.{pick}
 use Rattle.command.specs.Patterns.{Symbol, O, I, n, byte, fits, number}
@@ -129,63 +127,7 @@ meaningOf END v = accepted End
 meaningOf HLT v = accepted Hlt
 meaningOf SRC v = accepted (Src v)
 meaningOf DST v = accepted (Dst v)
-meaningOf none v = refused (Numbers.numberOf unassignedPair) 0
-
-abbrev pub numberOf : Command → ℕ
-numberOf DCY = 1
-numberOf RUP = 2
-numberOf CAL = 3
-numberOf BMP = 4
-numberOf FLT = 5
-numberOf RNG = 6
-numberOf SNC = 7
-numberOf F-X = 8
-numberOf DEF = 9
-numberOf ATK = 10
-numberOf SUS = 11
-numberOf LFO = 12
-numberOf P&V = 13
-numberOf RDN = 14
-numberOf WAV = 15
-numberOf F-M = 16
-numberOf RLS = 17
-numberOf RES = 18
-numberOf 3-0 = 19
-numberOf VOL = 20
-numberOf TAL = 21
-numberOf END = 22
-numberOf HLT = 23
-numberOf SRC = 24
-numberOf DST = 25
-numberOf none = 0
-
-abbrev pub commandAt : ℕ → Command
-commandAt k =
-    pick (eqb k 1) DCY
-    (pick (eqb k 2) RUP
-    (pick (eqb k 3) CAL
-    (pick (eqb k 4) BMP
-    (pick (eqb k 5) FLT
-    (pick (eqb k 6) RNG
-    (pick (eqb k 7) SNC
-    (pick (eqb k 8) F-X
-    (pick (eqb k 9) DEF
-    (pick (eqb k 10) ATK
-    (pick (eqb k 11) SUS
-    (pick (eqb k 12) LFO
-    (pick (eqb k 13) P&V
-    (pick (eqb k 14) RDN
-    (pick (eqb k 15) WAV
-    (pick (eqb k 16) F-M
-    (pick (eqb k 17) RLS
-    (pick (eqb k 18) RES
-    (pick (eqb k 19) 3-0
-    (pick (eqb k 20) VOL
-    (pick (eqb k 21) TAL
-    (pick (eqb k 22) END
-    (pick (eqb k 23) HLT
-    (pick (eqb k 24) SRC
-    (pick (eqb k 25) DST none))))))))))))))))))))))))
+meaningOf none v = refused (numberOf unassignedPair) 0
 
 abbrev pub secondOutcome : ℕ → Outcome Meaning
 secondOutcome b = meaningOf (coded b .command) (coded b .value)

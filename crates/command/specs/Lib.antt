@@ -1,5 +1,6 @@
 pub mod Patterns
 pub mod Codes
+pub mod Numbering
 pub mod Signs
 pub mod Others
 pub mod Pair

@@ -1,7 +1,8 @@
 // Commands whose first byte is 01.
 ghost use mathlib.Core.Path.{_≡_};
 ghost use Rattle.meaning.specs.Answers.{toldMeaning};
-ghost use Rattle.command.specs.Codes.{bumpOf, meaningOf, commandAt, secondOutcome};
+ghost use Rattle.command.specs.Codes.{bumpOf, meaningOf, secondOutcome};
+ghost use Rattle.command.specs.Numbering.{commandAt};
 use crate::seconds::CODES;
 use meaning::Bump;
 use meaning::Meaning;

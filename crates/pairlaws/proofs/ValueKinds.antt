@@ -17,7 +17,8 @@ use Rattle.meaning.specs.Answers.{Bytes}
 use Rattle.meaning.specs.Laws.{both-left, both-right}
 use Rattle.meaning.specs.Every.{every, every-at, all-left, all-right}
 use Rattle.command.specs.Codes as Codes
-use Rattle.command.specs.Codes.{Command, coded, commandAt}
+use Rattle.command.specs.Codes.{Command, coded}
+use Rattle.command.specs.Numbering.{numberOf, commandAt}
 use Rattle.command.proofs.Table.{command-back}
 use Rattle.spelling.specs.declared.signs.Slot.the-variants.{In, Out}
 use Rattle.spelling.specs.Counts.{pair, noBytes, counted, phrase, alone, joined}
@@ -43,19 +44,19 @@ at-value M v k x y f g = go (eqb v k) refl
 
 -- the second byte's command and value, as a test
 abbrev pub codedIs : Command → ℕ → ℕ → Bool
-codedIs c b v = eqb (Codes.numberOf (coded b .command)) (Codes.numberOf c) && eqb (coded b .value) v && ltb b 256
+codedIs c b v = eqb (numberOf (coded b .command)) (numberOf c) && eqb (coded b .value) v && ltb b 256
 
-same-command : (c d : Command) → Codes.numberOf c ≡ Codes.numberOf d → c ≡ d
+same-command : (c d : Command) → numberOf c ≡ numberOf d → c ≡ d
 same-command c d e = sym (command-back c) ∙ ap commandAt e ∙ command-back d
 
 pub coded-good : (c : Command) (M : ℕ → Meaning) → ((v : ℕ) → Codes.meaningOf c v ≡ accepted (M v))
     → (b v : ℕ) → T (codedIs c b v) → Good (M v) 1 b
 coded-good c M is b v t =
     let k = coded b .command in
-    let first = eqb (Codes.numberOf k) (Codes.numberOf c) in
+    let first = eqb (numberOf k) (numberOf c) in
     let second = eqb (coded b .value) v in
     let both = all-left (first && second) (ltb b 256) t in
-    let command = same-command k c (eqb→eq (Codes.numberOf k) (Codes.numberOf c) (all-left first second both)) in
+    let command = same-command k c (eqb→eq (numberOf k) (numberOf c) (all-left first second both)) in
     let value = eqb→eq (coded b .value) v (all-right first second both) in
     (rw (command, value) (is v), lit< tt, ltb→lt b 256 (all-right (first && second) (ltb b 256) t))
 
