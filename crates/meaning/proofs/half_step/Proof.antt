@@ -6,16 +6,10 @@ use Rattle.meaning.specs.Laws.{octave-low, letter-low, raised-low}
 use Rattle.meaning.proofs.half_step.Statement.{statement}
 use Rattle.meaning.proofs.half_step.Tie as tie
 
-in-tables-requires : tie.Need-in-tables-requires
-in-tables-requires c κs = search needs
-
 mul-natural : tie.Need-mul-natural
 mul-natural c =
     let low = octave-low (c .before .before .args .pitch) (sym (c .before .in-tables .ensures) ∙ c .if1 .taken) in
     record { fits = omega arith }
-
-letter-step-requires : tie.Need-letter-step-requires
-letter-step-requires c κs = search needs
 
 add-natural : tie.Need-add-natural
 add-natural c =
@@ -24,9 +18,6 @@ add-natural c =
     let step = letter-low (p .letter) in
     let is = c .letter-step .ensures in
     record { fits = omega arith }
-
-raised-by-requires : tie.Need-raised-by-requires
-raised-by-requires c κs = search needs
 
 add-less : tie.Need-add-less
 add-less c =
@@ -37,15 +28,6 @@ add-less c =
     let up = raised-low (p .accidental) in
     let is-up = c .raised-by .ensures in
     record { fits = omega arith }
-
-lowered-by-requires : tie.Need-lowered-by-requires
-lowered-by-requires c κs = search needs
-
-less-requires : tie.Need-less-requires
-less-requires c κs = search needs
-
-unplaced-requires : tie.Need-unplaced-requires
-unplaced-requires c κs = search needs
 
 returns : tie.Need-returns
 returns c =
@@ -58,14 +40,14 @@ pub half-step-spec : {M : Type 1} → statement M
 half-step-spec =
     tie.close
     (tie.spec
-    in-tables-requires
+    (λ c κs. search needs)
     mul-natural
-    letter-step-requires
+    (λ c κs. search needs)
     add-natural
-    raised-by-requires
+    (λ c κs. search needs)
     add-less
-    lowered-by-requires
-    less-requires
-    unplaced-requires
+    (λ c κs. search needs)
+    (λ c κs. search needs)
+    (λ c κs. search needs)
     returns
     returns-2)

@@ -2,30 +2,6 @@ use borrow.Author.Needs.{needs}
 use Rattle.note.proofs.write_note.Statement.{statement}
 use Rattle.note.proofs.write_note.Tie as tie
 
-first-byte-requires : tie.Need-first-byte-requires
-first-byte-requires c κs = search needs
-
-tone-byte-requires : tie.Need-tone-byte-requires
-tone-byte-requires c κs = search needs
-
-enum-told : tie.Need-enum-told
-enum-told c = search needs
-
-unplaced-requires : tie.Need-unplaced-requires
-unplaced-requires c κs = search needs
-
-enum-known-a : tie.Need-enum-known-a
-enum-known-a c = search needs
-
-enum-told-2 : tie.Need-enum-told-2
-enum-told-2 c = search needs
-
-unplaced-requires-2 : tie.Need-unplaced-requires-2
-unplaced-requires-2 c κs = search needs
-
-enum-known-b : tie.Need-enum-known-b
-enum-known-b c = search needs
-
 returns : tie.Need-returns
 returns c =
     let at = c .before .before .before .before in
@@ -49,14 +25,14 @@ pub write-note-spec : {M : Type 1} → statement M
 write-note-spec =
     tie.close
     (tie.spec
-    first-byte-requires
-    tone-byte-requires
-    enum-told
-    unplaced-requires
-    enum-known-a
-    enum-told-2
-    unplaced-requires-2
-    enum-known-b
+    (λ c κs. search needs)
+    (λ c κs. search needs)
+    (λ c. search needs)
+    (λ c κs. search needs)
+    (λ c. search needs)
+    (λ c. search needs)
+    (λ c κs. search needs)
+    (λ c. search needs)
     returns
     returns-2
     returns-3)

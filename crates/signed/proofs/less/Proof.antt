@@ -3,12 +3,6 @@ use Rattle.signed.proofs.Width.{less-fits, less-is}
 use Rattle.signed.proofs.less.Statement.{statement}
 use Rattle.signed.proofs.less.Tie as tie
 
-cast-result : tie.Need-cast-result
-cast-result c = search needs
-
-cast-result-2 : tie.Need-cast-result-2
-cast-result-2 c = search needs
-
 sub-result : tie.Need-sub-result
 sub-result c = search (needs, less-fits)
 
@@ -16,4 +10,4 @@ returns : tie.Need-returns
 returns c = less-is (c .args .a) (c .args .b) (search needs) (search needs)
 
 pub less-spec : {M : Type 1} → statement M
-less-spec = tie.close (tie.spec cast-result cast-result-2 sub-result returns)
+less-spec = tie.close (tie.spec (λ c. search needs) (λ c. search needs) sub-result returns)

@@ -7,15 +7,6 @@ use borrow.Author.Needs.{needs}
 use Rattle.note.proofs.first.first_byte.Statement.{statement}
 use Rattle.note.proofs.first.first_byte.Tie as tie
 
-length-byte-requires : tie.Need-length-byte-requires
-length-byte-requires c κs = search needs
-
-enum-told : tie.Need-enum-told
-enum-told c = search needs
-
-enum-known-untied : tie.Need-enum-known-untied
-enum-known-untied c = search needs
-
 add-t11 : tie.Need-add-t11
 add-t11 c =
     let at = c .before .before .before in
@@ -46,9 +37,9 @@ pub first-byte-spec : {M : Type 1} → statement M
 first-byte-spec =
     tie.close
     (tie.spec
-    length-byte-requires
-    enum-told
-    enum-known-untied
+    (λ c κs. search needs)
+    (λ c. search needs)
+    (λ c. search needs)
     add-t11
     returns
     returns-2

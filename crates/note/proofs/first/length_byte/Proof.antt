@@ -4,68 +4,23 @@ use borrow.Author.Needs.{needs}
 use Rattle.note.proofs.first.length_byte.Statement.{statement}
 use Rattle.note.proofs.first.length_byte.Tie as tie
 
-shape-bits-requires : tie.Need-shape-bits-requires
-shape-bits-requires c κs = search needs
-
-enum-told : tie.Need-enum-told
-enum-told c = search needs
-
 add-t5 : tie.Need-add-t5
 add-t5 c = record { fits = omega (arith, shape-low (c .before .before .before .args .shape), c .before .before .shape-bits .ensures) }
-
-enum-told-2 : tie.Need-enum-told-2
-enum-told-2 c = search needs
 
 add-t6 : tie.Need-add-t6
 add-t6 c = record { fits = omega (arith, shape-low (c .before .before .before .args .shape), c .before .before .shape-bits .ensures) }
 
-enum-told-3 : tie.Need-enum-told-3
-enum-told-3 c = search needs
-
 add-t7 : tie.Need-add-t7
 add-t7 c = record { fits = omega (arith, shape-low (c .before .before .before .args .shape), c .before .before .shape-bits .ensures) }
-
-enum-told-4 : tie.Need-enum-told-4
-enum-told-4 c = search needs
 
 add-t8 : tie.Need-add-t8
 add-t8 c = record { fits = omega (arith, shape-low (c .before .before .before .args .shape), c .before .before .shape-bits .ensures) }
 
-enum-told-5 : tie.Need-enum-told-5
-enum-told-5 c = search needs
-
 add-t9 : tie.Need-add-t9
 add-t9 c = record { fits = omega (arith, shape-low (c .before .before .before .args .shape), c .before .before .shape-bits .ensures) }
 
-enum-told-6 : tie.Need-enum-told-6
-enum-told-6 c = search needs
-
 add-t10 : tie.Need-add-t10
 add-t10 c = record { fits = omega (arith, shape-low (c .before .before .before .args .shape), c .before .before .shape-bits .ensures) }
-
-enum-told-7 : tie.Need-enum-told-7
-enum-told-7 c = search needs
-
-plain-or-triplet-requires : tie.Need-plain-or-triplet-requires
-plain-or-triplet-requires c κs = search needs
-
-enum-told-8 : tie.Need-enum-told-8
-enum-told-8 c = search needs
-
-plain-or-triplet-requires-2 : tie.Need-plain-or-triplet-requires-2
-plain-or-triplet-requires-2 c κs = search needs
-
-enum-told-9 : tie.Need-enum-told-9
-enum-told-9 c = search needs
-
-plain-only-requires : tie.Need-plain-only-requires
-plain-only-requires c κs = search needs
-
-enum-told-10 : tie.Need-enum-told-10
-enum-told-10 c = search needs
-
-plain-only-requires-2 : tie.Need-plain-only-requires-2
-plain-only-requires-2 c κs = search needs
 
 returns : tie.Need-returns
 returns c = rw (c .enum-told .given .1, c .before .before .shape-bits .ensures)
@@ -101,27 +56,27 @@ pub length-byte-spec : {M : Type 1} → statement M
 length-byte-spec =
     tie.close
     (tie.spec
-    shape-bits-requires
-    enum-told
+    (λ c κs. search needs)
+    (λ c. search needs)
     add-t5
-    enum-told-2
+    (λ c. search needs)
     add-t6
-    enum-told-3
+    (λ c. search needs)
     add-t7
-    enum-told-4
+    (λ c. search needs)
     add-t8
-    enum-told-5
+    (λ c. search needs)
     add-t9
-    enum-told-6
+    (λ c. search needs)
     add-t10
-    enum-told-7
-    plain-or-triplet-requires
-    enum-told-8
-    plain-or-triplet-requires-2
-    enum-told-9
-    plain-only-requires
-    enum-told-10
-    plain-only-requires-2
+    (λ c. search needs)
+    (λ c κs. search needs)
+    (λ c. search needs)
+    (λ c κs. search needs)
+    (λ c. search needs)
+    (λ c κs. search needs)
+    (λ c. search needs)
+    (λ c κs. search needs)
     returns
     returns-2
     returns-3

@@ -6,30 +6,6 @@ use Rattle.note.proofs.first.length_of.Tie as tie
 returns : tie.Need-returns
 returns c = rw (c .if1 .taken)
 
-triplet-or-plain-requires : tie.Need-triplet-or-plain-requires
-triplet-or-plain-requires c κs = search needs
-
-utility-of-requires : tie.Need-utility-of-requires
-utility-of-requires c κs = search needs
-
-valued-requires : tie.Need-valued-requires
-valued-requires c κs = search needs
-
-valued-requires-2 : tie.Need-valued-requires-2
-valued-requires-2 c κs = search needs
-
-valued-requires-3 : tie.Need-valued-requires-3
-valued-requires-3 c κs = search needs
-
-valued-requires-4 : tie.Need-valued-requires-4
-valued-requires-4 c κs = search needs
-
-valued-requires-5 : tie.Need-valued-requires-5
-valued-requires-5 c κs = search needs
-
-valued-requires-6 : tie.Need-valued-requires-6
-valued-requires-6 c κs = search needs
-
 returns-2 : tie.Need-returns-2
 returns-2 c = rw (ne-eqb _ _ (c .before .before .if1 .left), c .before .match .keys1, c .triplet-or-plain .ensures)
 
@@ -62,14 +38,14 @@ length-of-spec =
     tie.close
     (tie.spec
     returns
-    triplet-or-plain-requires
-    utility-of-requires
-    valued-requires
-    valued-requires-2
-    valued-requires-3
-    valued-requires-4
-    valued-requires-5
-    valued-requires-6
+    (λ c κs. search needs)
+    (λ c κs. search needs)
+    (λ c κs. search needs)
+    (λ c κs. search needs)
+    (λ c κs. search needs)
+    (λ c κs. search needs)
+    (λ c κs. search needs)
+    (λ c κs. search needs)
     returns-2
     returns-3
     returns-4

@@ -3,9 +3,6 @@ use borrow.Author.Needs.{needs}
 use Rattle.note.proofs.second.accidental_of.Statement.{statement}
 use Rattle.note.proofs.second.accidental_of.Tie as tie
 
-double-of-requires : tie.Need-double-of-requires
-double-of-requires c κs = search needs
-
 returns : tie.Need-returns
 returns c = rw (c .match .keys1)
 
@@ -19,4 +16,4 @@ returns-4 : tie.Need-returns-4
 returns-4 c = let r = c .before .match .rest in rw (ne-eqb _ _ (r .0 .0 .1), ne-eqb _ _ (r .0 .1), ne-eqb _ _ (r .1), c .double-of .ensures)
 
 pub accidental-of-spec : {M : Type 1} → statement M
-accidental-of-spec = tie.close (tie.spec double-of-requires returns returns-2 returns-3 returns-4)
+accidental-of-spec = tie.close (tie.spec (λ c κs. search needs) returns returns-2 returns-3 returns-4)

@@ -6,24 +6,12 @@ use borrow.Author.Needs.{needs}
 use Rattle.note.proofs.second.tone_byte.Statement.{statement}
 use Rattle.note.proofs.second.tone_byte.Tie as tie
 
-enum-told : tie.Need-enum-told
-enum-told c = search needs
-
-enum-known-tone : tie.Need-enum-known-tone
-enum-known-tone c = search needs
-
-in-tables-requires : tie.Need-in-tables-requires
-in-tables-requires c κs = search needs
-
 cast-octave : tie.Need-cast-octave
 cast-octave c =
     let at = c .before in
     let p = at .before .before .before .tone .given .0 .0 in
     let low = octave-low p (sym (at .before .in-tables .ensures) ∙ at .if1 .taken) in
     record { fits = omega arith }
-
-accidental-bits-requires : tie.Need-accidental-bits-requires
-accidental-bits-requires c κs = search needs
 
 sub-t10 : tie.Need-sub-t10
 sub-t10 c =
@@ -32,18 +20,12 @@ sub-t10 c =
     let low = octave-low p (sym (at .before .in-tables .ensures) ∙ at .if1 .taken) in
     low
 
-mul-t11 : tie.Need-mul-t11
-mul-t11 c = search needs
-
 add-t12 : tie.Need-add-t12
 add-t12 c =
     let at = c .before .before in
     let p = at .before .before .before .tone .given .0 .0 in
     let low = octave-low p (sym (at .before .in-tables .ensures) ∙ at .if1 .taken) in
     record { fits = omega (arith, accidental-low (p .accidental), c .accidental-bits .ensures) }
-
-letter-number-requires : tie.Need-letter-number-requires
-letter-number-requires c κs = search needs
 
 add-t14 : tie.Need-add-t14
 add-t14 c =
@@ -53,9 +35,6 @@ add-t14 c =
     let bits = accidental-low (p .accidental) in
     let is = c .before .accidental-bits .ensures in
     record { fits = omega (arith, letter-low (p .letter), c .letter-number .ensures) }
-
-returns : tie.Need-returns
-returns c = search needs
 
 returns-2 : tie.Need-returns-2
 returns-2 c =
@@ -70,16 +49,16 @@ pub tone-byte-spec : {M : Type 1} → statement M
 tone-byte-spec =
     tie.close
     (tie.spec
-    enum-told
-    enum-known-tone
-    in-tables-requires
+    (λ c. search needs)
+    (λ c. search needs)
+    (λ c κs. search needs)
     cast-octave
-    accidental-bits-requires
+    (λ c κs. search needs)
     sub-t10
-    mul-t11
+    (λ c. search needs)
     add-t12
-    letter-number-requires
+    (λ c κs. search needs)
     add-t14
-    returns
+    (λ c. search needs)
     returns-2
     returns-3)
