@@ -1,8 +1,9 @@
 -- Source 004, 'COMMANDS WITH FIRST BYTE = HEX 01', row by row, with document 01's 'Unassigned: 53 6F 7F 83 8B 9F BF CF FF'.
 -- Command         the commands of the table in its order, and none
 -- Row             a row: the second byte's pattern, the command, and which numbers it may have and what is added to them
--- counts, is, from, upTo   kinds of rows: every number; a byte with one value; numbers from 1 with 16 added; numbers up to a greatest
+-- counts, is, from9, upTo   kinds of rows: every number; a byte with one value; numbers from 1 with 16 added; numbers up to a greatest
 -- rows            the table
+-- holds           whether a byte fits a row, with a number that the row may have
 -- Coded, codedBy, coded   a second byte's command and value: those of the row that it fits
 -- bumpOf, meaningOf       what a command and its value mean
 -- secondOutcome   the meaning of 01 and a second byte, or 27

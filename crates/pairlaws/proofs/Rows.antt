@@ -1,26 +1,28 @@
 -- The tables' rows lie apart, so that their order says nothing; and the half-steps lie between -1 and 96.
 -- seconds-apart      no second byte behind 01 fits two rows
 -- firsts-apart       no first byte fits two rows of the other table
--- firsts-elsewhere   and 01 and the first bytes of notes fit none
+-- seconds-unassigned 'Unassigned: 53 6F 7F 83 8B 9F BF CF FF', behind 01
+-- firsts-unassigned  'Unassigned: low bits 01 other than 01, and 8E AE CE EE'
 -- step-range         the half-step of every pitch in the tables is -1 to 96
 use Prim.Native.Nat.{ℕ, _+_, _%_, _<_, _≤_}
 use mathlib.Core.Path.{_≡_, subst}
-use mathlib.Core.Bool.{Bool, true, false, not, _&&_, _||_}
+use mathlib.Core.Bool.{Bool, true, false, _&&_, _||_}
 use mathlib.Core.List.{List, [], _∷_, _++_}
-use lib.Dec.{T, eqb, leb, leb→le, eqb→eq}
+use lib.Dec.{T, eqb, leb, leb→le}
 use lib.IntN.{pos, negsuc}
 use lib.Signed.{leZ}
 use Rattle.meaning.specs.declared.Pitch.{Pitch}
 use Rattle.meaning.specs.declared.Tone.{Tone}
 use Rattle.meaning.specs.declared.Tone.the-variants.{Rest, Sounds}
 use Rattle.meaning.specs.Pitches.{inTables, halfStep}
-use Rattle.meaning.specs.Every.{every-at, implied}
+use Rattle.meaning.specs.Every.{every-at, same, same-equal}
 use Rattle.note.specs.Reading.{toneOf}
 use Rattle.note.specs.Laws.{pitchByte, pitch-reads}
 use Rattle.command.specs.Patterns.{fits}
 use Rattle.command.specs.Codes as Codes
 use Rattle.command.specs.Codes.{rows, holds}
 use Rattle.command.specs.Others.{Row, pulse, single, joined}
+use Rattle.command.proofs.Firsts.{isOneOf}
 
 abbrev one : Bool → ℕ
 one true = 1
@@ -33,6 +35,14 @@ holding (r ∷ rs) b = one (holds r b) + holding rs b
 pub seconds-apart : (b : ℕ) → b < 256 → holding rows b ≤ 1
 seconds-apart b h = leb→le (holding rows b) 1 (every-at (λ k. leb (holding rows k) 1) 256 tt b h)
 
+abbrev pub unassignedSeconds : List ℕ
+unassignedSeconds = 0x53 ∷ 0x6F ∷ 0x7F ∷ 0x83 ∷ 0x8B ∷ 0x9F ∷ 0xBF ∷ 0xCF ∷ 0xFF ∷ []
+
+pub seconds-unassigned : (b : ℕ) → b < 256 → eqb (holding rows b) 0 ≡ isOneOf unassignedSeconds b
+seconds-unassigned b h =
+    same-equal (eqb (holding rows b) 0) (isOneOf unassignedSeconds b)
+    (every-at (λ k. same (eqb (holding rows k) 0) (isOneOf unassignedSeconds k)) 256 tt b h)
+
 abbrev pub fitting : List Row → ℕ → ℕ
 fitting [] a = 0
 fitting (r ∷ rs) a = one (fits (r .pattern) a) + fitting rs a
@@ -43,12 +53,14 @@ others = pulse ++ single ++ joined
 pub firsts-apart : (a : ℕ) → a < 256 → fitting others a ≤ 1
 firsts-apart a h = leb→le (fitting others a) 1 (every-at (λ k. leb (fitting others k) 1) 256 tt a h)
 
-abbrev elsewhere : ℕ → Bool
-elsewhere a = not (eqb (a % 4) 0 || eqb a 1) || eqb (fitting others a) 0
+abbrev pub unassignedFirst : ℕ → Bool
+unassignedFirst a = eqb (a % 4) 0 || eqb (a % 4) 1 || isOneOf (0x8E ∷ 0xAE ∷ 0xCE ∷ 0xEE ∷ []) a
 
-pub firsts-elsewhere : (a : ℕ) → a < 256 → eqb (a % 4) 0 || eqb a 1 ≡ true → fitting others a ≡ 0
-firsts-elsewhere a h e =
-    eqb→eq (fitting others a) 0 (implied (eqb (a % 4) 0 || eqb a 1) (eqb (fitting others a) 0) (every-at elsewhere 256 tt a h) e)
+-- notes' first bytes and 01 among them, which have tables of their own
+pub firsts-unassigned : (a : ℕ) → a < 256 → eqb (fitting others a) 0 ≡ unassignedFirst a
+firsts-unassigned a h =
+    same-equal (eqb (fitting others a) 0) (unassignedFirst a)
+    (every-at (λ k. same (eqb (fitting others k) 0) (unassignedFirst k)) 256 tt a h)
 
 abbrev pub between : Pitch → Bool
 between p = leZ (negsuc 0) (halfStep p) && leZ (halfStep p) (pos 96)
