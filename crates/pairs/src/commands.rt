@@ -1,134 +1,115 @@
 // What a pair's meaning is called: source 004's abbreviation, and the value.
 use crate::notes::put_note;
-use crate::text::put;
-use crate::text::put_number;
+use crate::text::number_of;
+use crate::text::put_nth;
 use crate::text::put_signed;
-use crate::text::put_word;
 use meaning::Bump;
 use meaning::Meaning;
 use meaning::Note;
 
-// What stands behind an abbreviation.
-enum Value {
-    Nothing,
-    Count(u16),
-    Integer(i32),
-    Switch(bool),
-    Bumps(Bump),
-}
-
-// A command by the three characters of its abbreviation. The checker takes fifty cases of numbers, and not fifty of slices, so
-// the characters stand one by one.
-struct Command {
-    a: u8,
-    b: u8,
-    c: u8,
-    value: Value,
-}
-
+// A meaning by what is to be shown: a note, or a command by its number in source 004's order, from 0 on, and its value.
 enum Shown {
     Note(Note),
-    Command(Command),
-}
-
-fn named(a: u8, b: u8, c: u8, value: Value) -> Shown {
-    Shown::Command(Command { a, b, c, value })
+    Bare(u8),
+    Count(u8, u16),
+    Integer(u8, i32),
+    Switch(u8, bool),
+    Bump(u8, Bump),
 }
 
 // One line a case, in source 004's order.
 fn told(meaning: Meaning) -> Shown {
     match meaning {
         Meaning::Note(note) => Shown::Note(note),
-        Meaning::Dcy(v) => named(b'D', b'C', b'Y', Value::Count(v)),
-        Meaning::Rup(v) => named(b'R', b'U', b'P', Value::Count(v)),
-        Meaning::Cal(v) => named(b'C', b'A', b'L', Value::Count(v)),
-        Meaning::Bmp(bump) => named(b'B', b'M', b'P', Value::Bumps(bump)),
-        Meaning::Flt(yes) => named(b'F', b'L', b'T', Value::Switch(yes)),
-        Meaning::Rng(yes) => named(b'R', b'N', b'G', Value::Switch(yes)),
-        Meaning::Snc(yes) => named(b'S', b'N', b'C', Value::Switch(yes)),
-        Meaning::Fx(yes) => named(b'F', b'-', b'X', Value::Switch(yes)),
-        Meaning::Def(v) => named(b'D', b'E', b'F', Value::Count(v)),
-        Meaning::Atk(v) => named(b'A', b'T', b'K', Value::Count(v)),
-        Meaning::Sus(v) => named(b'S', b'U', b'S', Value::Count(v)),
-        Meaning::Lfo(v) => named(b'L', b'F', b'O', Value::Count(v)),
-        Meaning::Pv(yes) => named(b'P', b'&', b'V', Value::Switch(yes)),
-        Meaning::Rdn(v) => named(b'R', b'D', b'N', Value::Count(v)),
-        Meaning::Wav(v) => named(b'W', b'A', b'V', Value::Count(v)),
-        Meaning::Fm(v) => named(b'F', b'-', b'M', Value::Count(v)),
-        Meaning::Rls(v) => named(b'R', b'L', b'S', Value::Count(v)),
-        Meaning::Res(v) => named(b'R', b'E', b'S', Value::Count(v)),
-        Meaning::ThreeOff(yes) => named(b'3', b'-', b'0', Value::Switch(yes)),
-        Meaning::Vol(v) => named(b'V', b'O', b'L', Value::Count(v)),
-        Meaning::Tal => named(b'T', b'A', b'L', Value::Nothing),
-        Meaning::End => named(b'E', b'N', b'D', Value::Nothing),
-        Meaning::Hlt => named(b'H', b'L', b'T', Value::Nothing),
-        Meaning::Src(v) => named(b'S', b'R', b'C', Value::Count(v)),
-        Meaning::Dst(v) => named(b'D', b'S', b'T', Value::Count(v)),
-        Meaning::Pw(v) => named(b'P', b'-', b'W', Value::Count(v)),
-        Meaning::Tem(v) => named(b'T', b'E', b'M', Value::Count(v)),
-        Meaning::Utl(v) => named(b'U', b'T', b'L', Value::Count(v)),
-        Meaning::Pnt(v) => named(b'P', b'N', b'T', Value::Count(v)),
-        Meaning::Hed(v) => named(b'H', b'E', b'D', Value::Count(v)),
-        Meaning::Flg(v) => named(b'F', b'L', b'G', Value::Count(v)),
-        Meaning::Ps(z) => named(b'P', b'-', b'S', Value::Integer(z)),
-        Meaning::Fs(z) => named(b'F', b'-', b'S', Value::Integer(z)),
-        Meaning::Sca(z) => named(b'S', b'C', b'A', Value::Integer(z)),
-        Meaning::Vdp(v) => named(b'V', b'D', b'P', Value::Count(v)),
-        Meaning::Vrt(v) => named(b'V', b'R', b'T', Value::Count(v)),
-        Meaning::Aut(z) => named(b'A', b'U', b'T', Value::Integer(z)),
-        Meaning::Tps(z) => named(b'T', b'P', b'S', Value::Integer(z)),
-        Meaning::Aux(v) => named(b'A', b'U', b'X', Value::Count(v)),
-        Meaning::Pvd(v) => named(b'P', b'V', b'D', Value::Count(v)),
-        Meaning::Pvr(v) => named(b'P', b'V', b'R', Value::Count(v)),
-        Meaning::Max(v) => named(b'M', b'A', b'X', Value::Count(v)),
-        Meaning::Utv(v) => named(b'U', b'T', b'V', Value::Count(v)),
-        Meaning::Fc(v) => named(b'F', b'-', b'C', Value::Count(v)),
-        Meaning::Rtp(z) => named(b'R', b'T', b'P', Value::Integer(z)),
-        Meaning::Hld(v) => named(b'H', b'L', b'D', Value::Count(v)),
-        Meaning::Ms(v) => named(b'M', b'S', b'#', Value::Count(v)),
-        Meaning::Jif(z) => named(b'J', b'I', b'F', Value::Integer(z)),
-        Meaning::Dtn(z) => named(b'D', b'T', b'N', Value::Integer(z)),
-        Meaning::Por(v) => named(b'P', b'O', b'R', Value::Count(v)),
+        Meaning::Dcy(v) => Shown::Count(0, v),
+        Meaning::Rup(v) => Shown::Count(1, v),
+        Meaning::Cal(v) => Shown::Count(2, v),
+        Meaning::Bmp(bump) => Shown::Bump(3, bump),
+        Meaning::Flt(yes) => Shown::Switch(4, yes),
+        Meaning::Rng(yes) => Shown::Switch(5, yes),
+        Meaning::Snc(yes) => Shown::Switch(6, yes),
+        Meaning::Fx(yes) => Shown::Switch(7, yes),
+        Meaning::Def(v) => Shown::Count(8, v),
+        Meaning::Atk(v) => Shown::Count(9, v),
+        Meaning::Sus(v) => Shown::Count(10, v),
+        Meaning::Lfo(v) => Shown::Count(11, v),
+        Meaning::Pv(yes) => Shown::Switch(12, yes),
+        Meaning::Rdn(v) => Shown::Count(13, v),
+        Meaning::Wav(v) => Shown::Count(14, v),
+        Meaning::Fm(v) => Shown::Count(15, v),
+        Meaning::Rls(v) => Shown::Count(16, v),
+        Meaning::Res(v) => Shown::Count(17, v),
+        Meaning::ThreeOff(yes) => Shown::Switch(18, yes),
+        Meaning::Vol(v) => Shown::Count(19, v),
+        Meaning::Tal => Shown::Bare(20),
+        Meaning::End => Shown::Bare(21),
+        Meaning::Hlt => Shown::Bare(22),
+        Meaning::Src(v) => Shown::Count(23, v),
+        Meaning::Dst(v) => Shown::Count(24, v),
+        Meaning::Pw(v) => Shown::Count(25, v),
+        Meaning::Tem(v) => Shown::Count(26, v),
+        Meaning::Utl(v) => Shown::Count(27, v),
+        Meaning::Pnt(v) => Shown::Count(28, v),
+        Meaning::Hed(v) => Shown::Count(29, v),
+        Meaning::Flg(v) => Shown::Count(30, v),
+        Meaning::Ps(z) => Shown::Integer(31, z),
+        Meaning::Fs(z) => Shown::Integer(32, z),
+        Meaning::Sca(z) => Shown::Integer(33, z),
+        Meaning::Vdp(v) => Shown::Count(34, v),
+        Meaning::Vrt(v) => Shown::Count(35, v),
+        Meaning::Aut(z) => Shown::Integer(36, z),
+        Meaning::Tps(z) => Shown::Integer(37, z),
+        Meaning::Aux(v) => Shown::Count(38, v),
+        Meaning::Pvd(v) => Shown::Count(39, v),
+        Meaning::Pvr(v) => Shown::Count(40, v),
+        Meaning::Max(v) => Shown::Count(41, v),
+        Meaning::Utv(v) => Shown::Count(42, v),
+        Meaning::Fc(v) => Shown::Count(43, v),
+        Meaning::Rtp(z) => Shown::Integer(44, z),
+        Meaning::Hld(v) => Shown::Count(45, v),
+        Meaning::Ms(v) => Shown::Count(46, v),
+        Meaning::Jif(z) => Shown::Integer(47, z),
+        Meaning::Dtn(z) => Shown::Integer(48, z),
+        Meaning::Por(v) => Shown::Count(49, v),
     }
 }
 
-fn put_switch(out: &mut [u8], at: usize, yes: bool) -> usize {
-    if yes {
-        put_word(out, at, b"YES")
-    } else {
-        put_word(out, at, b"NO")
-    }
+// The abbreviation of a command by its number.
+fn put_name(out: &mut [u8], at: usize, number: u8) -> usize {
+    put_nth(
+        out,
+        at,
+        b"DCY RUP CAL BMP FLT RNG SNC F-X DEF ATK SUS LFO P&V RDN WAV F-M RLS RES 3-0 VOL TAL END HLT SRC DST P-W TEM UTL \
+         PNT HED FLG P-S F-S SCA VDP VRT AUT TPS AUX PVD PVR MAX UTV F-C RTP HLD MS# JIF DTN POR",
+        number,
+    )
 }
 
-fn put_bump(out: &mut [u8], at: usize, bump: Bump) -> usize {
+fn bump_number(bump: Bump) -> u8 {
     match bump {
-        Bump::Up => put_word(out, at, b"UP"),
-        Bump::Down => put_word(out, at, b"DN"),
+        Bump::Up => 2,
+        Bump::Down => 3,
     }
 }
 
-fn put_value(out: &mut [u8], at: usize, value: Value) -> usize {
-    match value {
-        Value::Nothing => at,
-        Value::Count(v) => put_number(out, at, v as u32),
-        Value::Integer(z) => put_signed(out, at, z),
-        Value::Switch(yes) => put_switch(out, at, yes),
-        Value::Bumps(bump) => put_bump(out, at, bump),
-    }
+// NO and YES stand first, so that number_of finds them.
+fn put_named(out: &mut [u8], at: usize, number: u8, word: u8) -> usize {
+    let to = put_name(out, at, number);
+    put_nth(out, to, b"NO YES UP DN", word)
 }
 
-fn put_command(out: &mut [u8], at: usize, command: Command) -> usize {
-    let value = command.value;
-    let s = put(out, at, b' ');
-    let a = put(out, s, command.a);
-    let b = put(out, a, command.b);
-    let c = put(out, b, command.c);
-    put_value(out, c, value)
+fn put_integer(out: &mut [u8], at: usize, number: u8, value: i32) -> usize {
+    let to = put_name(out, at, number);
+    put_signed(out, to, value)
 }
 
 pub fn put_meaning(out: &mut [u8], at: usize, meaning: Meaning) -> usize {
     match told(meaning) {
         Shown::Note(note) => put_note(out, at, note),
-        Shown::Command(command) => put_command(out, at, command),
+        Shown::Bare(n) => put_name(out, at, n),
+        Shown::Count(n, v) => put_integer(out, at, n, v as i32),
+        Shown::Integer(n, z) => put_integer(out, at, n, z),
+        Shown::Switch(n, yes) => put_named(out, at, n, number_of(yes)),
+        Shown::Bump(n, bump) => put_named(out, at, n, bump_number(bump)),
     }
 }

@@ -10,20 +10,50 @@ pub fn put(out: &mut [u8], at: usize, byte: u8) -> usize {
     }
 }
 
-fn put_text(out: &mut [u8], at: usize, text: &[u8]) -> usize {
+// Puts what stands from a place of the text up to the next space, or to the end.
+fn put_from(out: &mut [u8], at: usize, text: &[u8], from: usize) -> usize {
     let mut to = at;
-    let mut i = 0;
+    let mut i = from;
     while i < text.len() {
+        if text[i] == b' ' {
+            return to;
+        }
         to = put(out, to, text[i]);
         i += 1;
     }
     to
 }
 
+// Where a word of a list starts. One space stands between two words, and the first word has the number 0.
+fn start_of(list: &[u8], number: u8) -> usize {
+    let mut spaces = number;
+    let mut i = 0;
+    while i < list.len() {
+        if spaces == 0 {
+            return i;
+        }
+        if list[i] == b' ' {
+            spaces -= 1;
+        }
+        i += 1;
+    }
+    i
+}
+
+// A space, and a word of a list by its number. One literal for a list is proved sooner than one for each word.
+pub fn put_nth(out: &mut [u8], at: usize, list: &[u8], number: u8) -> usize {
+    let to = put(out, at, b' ');
+    put_from(out, to, list, start_of(list, number))
+}
+
+// The number of a word in a list of two, the first for no and the second for yes.
+pub fn number_of(yes: bool) -> u8 {
+    if yes { 1 } else { 0 }
+}
+
 // A space, and the word.
 pub fn put_word(out: &mut [u8], at: usize, word: &[u8]) -> usize {
-    let to = put(out, at, b' ');
-    put_text(out, to, word)
+    put_nth(out, at, word, 0)
 }
 
 fn hex_digit(n: u8) -> u8 {
@@ -37,10 +67,11 @@ pub fn put_hex(out: &mut [u8], at: usize, byte: u8) -> usize {
     put(out, to, hex_digit(byte))
 }
 
+// Digits have no space among them, so put_from puts them all.
 fn put_decimal(out: &mut [u8], at: usize, n: u32) -> usize {
     let mut digits = [0u8; 20];
     let k = io::decimal(n as u64, &mut digits);
-    put_text(out, at, &digits[..k])
+    put_from(out, at, &digits[..k], 0)
 }
 
 // A space, and the number.

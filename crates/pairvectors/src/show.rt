@@ -1,4 +1,5 @@
-// A line for each answer: the label, and the bytes, the half-step or the refusal.
+// A line for each answer: the label, and the bytes, the half-step or the refusal. The labels of a function stand in one list,
+// and a row has its label by number: one literal is proved sooner than one for each row.
 use libc::STDOUT_FILENO;
 use meaning::Accidental;
 use meaning::Duration;
@@ -14,6 +15,33 @@ use refusals::Refusal;
 
 fn write(text: &[u8]) {
     io::write_all(STDOUT_FILENO, text);
+}
+
+// Where a label of a list starts. A semicolon stands behind each label, and the first has the number 0.
+fn start_of(labels: &[u8], number: u16) -> usize {
+    let mut ends = number;
+    let mut i = 0;
+    while i < labels.len() {
+        if ends == 0 {
+            return i;
+        }
+        if labels[i] == b';' {
+            ends -= 1;
+        }
+        i += 1;
+    }
+    i
+}
+
+// Every list has the label that is asked for, so the tests hold; they are there for the part of the slice.
+fn write_label(labels: &[u8], number: u8) {
+    let from = start_of(labels, number as u16);
+    let to = start_of(labels, number as u16 + 1);
+    if from < to {
+        if to <= labels.len() {
+            write(&labels[from..to - 1]);
+        }
+    }
 }
 
 fn write_number(n: u64) {
@@ -52,8 +80,8 @@ fn write_step(v: i32) {
     }
 }
 
-pub fn spelling(label: &[u8], meaning: Meaning) {
-    write(label);
+pub fn spelling(labels: &[u8], k: u8, meaning: Meaning) {
+    write_label(labels, k);
     match pair::write(meaning) {
         Spelling::Bytes(first, second) => write_bytes(first, second),
         Spelling::Refused(x) => write_refusal(x),
@@ -61,8 +89,8 @@ pub fn spelling(label: &[u8], meaning: Meaning) {
     write(b"\n");
 }
 
-pub fn half_step(label: &[u8], letter: Letter, accidental: Accidental, octave: u16) {
-    write(label);
+pub fn half_step(labels: &[u8], k: u8, letter: Letter, accidental: Accidental, octave: u16) {
+    write_label(labels, k);
     match meaning::half_step(Pitch {
         letter,
         accidental,
@@ -75,7 +103,7 @@ pub fn half_step(label: &[u8], letter: Letter, accidental: Accidental, octave: u
 }
 
 // A note of this pitch, a plain quarter.
-pub fn pitched(label: &[u8], letter: Letter, accidental: Accidental, octave: u16) {
+pub fn pitched(labels: &[u8], k: u8, letter: Letter, accidental: Accidental, octave: u16) {
     let tone = Tone::Sounds(Pitch {
         letter,
         accidental,
@@ -87,11 +115,11 @@ pub fn pitched(label: &[u8], letter: Letter, accidental: Accidental, octave: u16
         tied: false,
         tone,
     };
-    spelling(label, Meaning::Note(note));
+    spelling(labels, k, Meaning::Note(note));
 }
 
 // A note of this length, C natural of octave 4.
-pub fn sounding(label: &[u8], duration: Duration, shape: Shape, tied: bool) {
+pub fn sounding(labels: &[u8], k: u8, duration: Duration, shape: Shape, tied: bool) {
     let pitch = Pitch {
         letter: Letter::C,
         accidental: Accidental::Natural,
@@ -104,16 +132,16 @@ pub fn sounding(label: &[u8], duration: Duration, shape: Shape, tied: bool) {
         tied,
         tone,
     };
-    spelling(label, Meaning::Note(note));
+    spelling(labels, k, Meaning::Note(note));
 }
 
 // An untied rest of this length.
-pub fn resting(label: &[u8], duration: Duration, shape: Shape) {
+pub fn resting(labels: &[u8], k: u8, duration: Duration, shape: Shape) {
     let note = Note {
         duration,
         shape,
         tied: false,
         tone: Tone::Rest,
     };
-    spelling(label, Meaning::Note(note));
+    spelling(labels, k, Meaning::Note(note));
 }

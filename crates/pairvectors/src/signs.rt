@@ -3,59 +3,67 @@ use crate::show;
 use meaning::Meaning;
 
 fn show_sweeps() {
-    show::spelling(b"P-S 127", Meaning::Ps(127));
-    show::spelling(b"P-S 128", Meaning::Ps(128));
-    show::spelling(b"P-S -128", Meaning::Ps(-128));
-    show::spelling(b"P-S -129", Meaning::Ps(-129));
-    show::spelling(b"F-S 127", Meaning::Fs(127));
-    show::spelling(b"F-S 128", Meaning::Fs(128));
-    show::spelling(b"F-S -128", Meaning::Fs(-128));
-    show::spelling(b"F-S -129", Meaning::Fs(-129));
+    let labels: &[u8] = b"P-S 127;P-S 128;P-S -128;P-S -129;F-S 127;F-S 128;F-S -128;F-S -129;";
+    show::spelling(labels, 0, Meaning::Ps(127));
+    show::spelling(labels, 1, Meaning::Ps(128));
+    show::spelling(labels, 2, Meaning::Ps(-128));
+    show::spelling(labels, 3, Meaning::Ps(-129));
+    show::spelling(labels, 4, Meaning::Fs(127));
+    show::spelling(labels, 5, Meaning::Fs(128));
+    show::spelling(labels, 6, Meaning::Fs(-128));
+    show::spelling(labels, 7, Meaning::Fs(-129));
 }
 
 fn show_scales() {
-    show::spelling(b"AUT 127", Meaning::Aut(127));
-    show::spelling(b"AUT 128", Meaning::Aut(128));
-    show::spelling(b"AUT -128", Meaning::Aut(-128));
-    show::spelling(b"AUT -129", Meaning::Aut(-129));
-    show::spelling(b"SCA 7", Meaning::Sca(7));
-    show::spelling(b"SCA 8", Meaning::Sca(8));
-    show::spelling(b"SCA -7", Meaning::Sca(-7));
-    show::spelling(b"SCA -8", Meaning::Sca(-8));
+    let labels: &[u8] = b"AUT 127;AUT 128;AUT -128;AUT -129;SCA 7;SCA 8;SCA -7;SCA -8;";
+    show::spelling(labels, 0, Meaning::Aut(127));
+    show::spelling(labels, 1, Meaning::Aut(128));
+    show::spelling(labels, 2, Meaning::Aut(-128));
+    show::spelling(labels, 3, Meaning::Aut(-129));
+    show::spelling(labels, 4, Meaning::Sca(7));
+    show::spelling(labels, 5, Meaning::Sca(8));
+    show::spelling(labels, 6, Meaning::Sca(-7));
+    show::spelling(labels, 7, Meaning::Sca(-8));
 }
 
 fn show_transposes() {
-    show::spelling(b"TPS 95", Meaning::Tps(95));
-    show::spelling(b"TPS 96", Meaning::Tps(96));
-    show::spelling(b"TPS -95", Meaning::Tps(-95));
-    show::spelling(b"TPS -96", Meaning::Tps(-96));
-    show::spelling(b"RTP 47", Meaning::Rtp(47));
-    show::spelling(b"RTP 48", Meaning::Rtp(48));
-    show::spelling(b"RTP -47", Meaning::Rtp(-47));
-    show::spelling(b"RTP -48", Meaning::Rtp(-48));
+    let labels: &[u8] = b"TPS 95;TPS 96;TPS -95;TPS -96;RTP 47;RTP 48;RTP -47;RTP -48;";
+    show::spelling(labels, 0, Meaning::Tps(95));
+    show::spelling(labels, 1, Meaning::Tps(96));
+    show::spelling(labels, 2, Meaning::Tps(-95));
+    show::spelling(labels, 3, Meaning::Tps(-96));
+    show::spelling(labels, 4, Meaning::Rtp(47));
+    show::spelling(labels, 5, Meaning::Rtp(48));
+    show::spelling(labels, 6, Meaning::Rtp(-47));
+    show::spelling(labels, 7, Meaning::Rtp(-48));
 }
 
 fn show_tunings() {
-    show::spelling(b"JIF 757", Meaning::Jif(757));
-    show::spelling(b"JIF 758", Meaning::Jif(758));
-    show::spelling(b"JIF -200", Meaning::Jif(-200));
-    show::spelling(b"JIF -201", Meaning::Jif(-201));
-    show::spelling(b"DTN 2047", Meaning::Dtn(2047));
-    show::spelling(b"DTN 2048", Meaning::Dtn(2048));
-    show::spelling(b"DTN -2048", Meaning::Dtn(-2048));
-    show::spelling(b"DTN -2049", Meaning::Dtn(-2049));
-    show::spelling(b"DTN 5000", Meaning::Dtn(5000));
+    let labels: &[u8] =
+        b"JIF 757;JIF 758;JIF -200;JIF -201;DTN 2047;DTN 2048;DTN -2048;DTN -2049;DTN 5000;";
+    show::spelling(labels, 0, Meaning::Jif(757));
+    show::spelling(labels, 1, Meaning::Jif(758));
+    show::spelling(labels, 2, Meaning::Jif(-200));
+    show::spelling(labels, 3, Meaning::Jif(-201));
+    show::spelling(labels, 4, Meaning::Dtn(2047));
+    show::spelling(labels, 5, Meaning::Dtn(2048));
+    show::spelling(labels, 6, Meaning::Dtn(-2048));
+    show::spelling(labels, 7, Meaning::Dtn(-2049));
+    show::spelling(labels, 8, Meaning::Dtn(5000));
 }
 
 fn show_type_ends() {
-    show::spelling(b"P-S 2147483647", Meaning::Ps(i32::MAX));
-    show::spelling(b"P-S -2147483648", Meaning::Ps(i32::MIN));
-    show::spelling(b"TPS 2147483647", Meaning::Tps(i32::MAX));
-    show::spelling(b"TPS -2147483648", Meaning::Tps(i32::MIN));
-    show::spelling(b"RTP -2147483648", Meaning::Rtp(i32::MIN));
-    show::spelling(b"JIF -2147483648", Meaning::Jif(i32::MIN));
-    show::spelling(b"DTN 2147483647", Meaning::Dtn(i32::MAX));
-    show::spelling(b"DTN -2147483648", Meaning::Dtn(i32::MIN));
+    let labels: &[u8] =
+        b"P-S 2147483647;P-S -2147483648;TPS 2147483647;TPS -2147483648;RTP -2147483648;JIF -2147483648;DTN 2147483647;\
+         DTN -2147483648;";
+    show::spelling(labels, 0, Meaning::Ps(i32::MAX));
+    show::spelling(labels, 1, Meaning::Ps(i32::MIN));
+    show::spelling(labels, 2, Meaning::Tps(i32::MAX));
+    show::spelling(labels, 3, Meaning::Tps(i32::MIN));
+    show::spelling(labels, 4, Meaning::Rtp(i32::MIN));
+    show::spelling(labels, 5, Meaning::Jif(i32::MIN));
+    show::spelling(labels, 6, Meaning::Dtn(i32::MAX));
+    show::spelling(labels, 7, Meaning::Dtn(i32::MIN));
 }
 
 pub fn show_signs() {
