@@ -9,7 +9,7 @@ use Rattle.meaning.specs.Answers.{Bytes}
 use Rattle.note.specs.Reading.{noteOf}
 use Rattle.note.specs.Writing.{noteSpelling}
 use Rattle.command.specs.Pair.{commandOutcome}
-use Rattle.spelling.specs.Counts.{pair, bumped, switched, onlyYes, counted, phrase, target, alone, joined, tempo}
+use Rattle.spelling.specs.Counts.{pair, bumped, switched, onlyYes, counted, phrase, destination, alone, joined, tempo}
 use Rattle.spelling.specs.Signs.{signedByte, jif, dtn, tps, rtp}
 use Rattle.refusals.specs.Numbers.{Outcome}
 use Rattle.refusals.specs.Numbers.Outcome.{accepted}
@@ -44,7 +44,7 @@ spellingOf Tal = pair 1 0x0F
 spellingOf End = pair 1 0x2F
 spellingOf Hlt = pair 1 0x4F
 spellingOf (Src v) = counted v 2 0x1F 32
-spellingOf (Dst v) = target v
+spellingOf (Dst v) = destination v
 spellingOf (Pw v) = joined v 4095 0x02 16
 spellingOf (Tem v) = tempo v
 spellingOf (Utl v) = alone 0x16 v 255

@@ -47,7 +47,7 @@ pub fn write(meaning: Meaning) -> Spelling
         Meaning::End => Spelling::Bytes(1, 0x2F),
         Meaning::Hlt => Spelling::Bytes(1, 0x4F),
         Meaning::Src(v) => spelling::counted(v, 2, 0x1F, 32),
-        Meaning::Dst(v) => spelling::target(v),
+        Meaning::Dst(v) => spelling::destination(v),
         Meaning::Pw(v) => spelling::joined(v, 4095, 0x02, 16),
         Meaning::Tem(v) => spelling::tempo(v),
         Meaning::Utl(v) => spelling::alone(0x16, v, 255),

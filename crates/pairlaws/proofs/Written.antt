@@ -22,7 +22,7 @@ use Rattle.note.specs.Writing.{lengthByte, tiedByte, toneByte, both, noteSpelli
 use Rattle.note.specs.Laws.{written-note-reads}
 use Rattle.command.specs.Codes.{DCY, RUP, CAL, DEF, ATK, SUS, LFO, RDN, WAV, F-M, RLS, RES, VOL, SRC}
 use Rattle.command.specs.Others.{tempoOf}
-use Rattle.spelling.specs.Counts.{pair, noBytes, target, tempo}
+use Rattle.spelling.specs.Counts.{pair, noBytes, destination, tempo}
 use Rattle.pair.specs.Pairs.{spellingOf}
 use Rattle.pairlaws.specs.Statements.{ReadsBack}
 use Rattle.pairlaws.proofs.ValueKinds.{at-value, counted-back, phrase-back, single-back, joined-back, signed-back}
@@ -39,8 +39,8 @@ note-back n =
     go (Is a) None f = (refl, refl)
     go (Is a) (Is b) f = let r = f a b refl in (rw (eq-eqb (a % 4) 0 (r .0)) (ap (λ k. accepted (M.Note k)) (r .1)), r .2, r .3)
 
-target-back : (v : ℕ) → ReadsBack (Dst v) (target v)
-target-back v =
+destination-back : (v : ℕ) → ReadsBack (Dst v) (destination v)
+destination-back v =
     at-value Dst v 0 (pair 1 0x8F) _ (refl, lit< tt, lit< tt)
     (at-value Dst v 1 (pair 1 0xAF) _ (refl, lit< tt, lit< tt)
     (at-value Dst v 2 (pair 1 0xDF) _ (refl, lit< tt, lit< tt)
@@ -93,7 +93,7 @@ reads-back Tal = (refl, lit< tt, lit< tt)
 reads-back End = (refl, lit< tt, lit< tt)
 reads-back Hlt = (refl, lit< tt, lit< tt)
 reads-back (Src v) = counted-back SRC Src (λ k. refl) v 2 0x1F 32 tt
-reads-back (Dst v) = target-back v
+reads-back (Dst v) = destination-back v
 reads-back (Pw v) = joined-back Pw v 4095 0x02 16 tt pw-written
 reads-back (Tem v) = tempo-back v
 reads-back (Utl v) = single-back Utl 0x16 v 255 (λ k low. rw (zero-add k)) tt tt

@@ -4,7 +4,7 @@
 -- switched, onlyYes NO and YES, each with its second byte; 3-0, which has YES alone
 -- counted           first byte 01, the value in the second byte's upper bits
 -- phrase            CAL and DEF: 0 to 15 in one row, 17 to 23 in another
--- target            DST: '000=0, 010=1, 101=2, 110=3'
+-- destination       DST: '000=0, 010=1, 101=2, 110=3'
 -- alone             'Second byte is the value'
 -- joined            'the first byte's bits stand above the second byte'
 -- tempo             'TEM 0 means 256'
@@ -43,8 +43,8 @@ abbrev pub phrase : ℕ → ℕ → ℕ → Outcome Bytes
 phrase v low high =
     pick (leb v 15) (pair 1 (low + 16 * v)) (pick (leb 17 v && leb v 23) (pair 1 (high + 16 * (v - 16))) noBytes)
 
-abbrev pub target : ℕ → Outcome Bytes
-target v =
+abbrev pub destination : ℕ → Outcome Bytes
+destination v =
     pick (eqb v 0) (pair 1 0x8F)
     (pick (eqb v 1) (pair 1 0xAF)
     (pick (eqb v 2) (pair 1 0xDF)

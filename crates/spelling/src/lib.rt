@@ -3,7 +3,7 @@
 ghost use mathlib.Core.Path.{_≡_};
 ghost use Prim.Native.Nat.{_+_, _*_, _/_, _<_};
 ghost use Rattle.meaning.specs.Answers.{toldBytes};
-ghost use Rattle.spelling.specs.Counts.{noBytes, bumped, switched, onlyYes, counted, phrase, target, alone, joined, tempo};
+ghost use Rattle.spelling.specs.Counts.{noBytes, bumped, switched, onlyYes, counted, phrase, destination, alone, joined, tempo};
 use meaning::Bump;
 use meaning::Spelling;
 use refusals::Refusal;
@@ -73,8 +73,8 @@ pub fn phrase(v: u16, low: u16, high: u16) -> Spelling
 }
 
 // internal: DST's coded value.
-pub fn target(v: u16) -> Spelling
-    ensures { λ r. ⌜ toldBytes r ≡ target v ⌝ }
+pub fn destination(v: u16) -> Spelling
+    ensures { λ r. ⌜ toldBytes r ≡ destination v ⌝ }
 {
     match v {
         0 => Spelling::Bytes(1, 0x8F),

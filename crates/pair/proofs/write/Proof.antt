@@ -132,7 +132,7 @@ write-spec =
     (λ c. rw (c .enum-told2 .given .1))
     (λ c. rw (c .enum-told3 .given .1))
     (λ c. rw (c .before .before .meaning22 .given .1, c .counted12 .ensures))
-    (λ c. rw (c .before .before .meaning23 .given .1, c .target .ensures))
+    (λ c. rw (c .before .before .meaning23 .given .1, c .destination .ensures))
     (λ c. rw (c .before .before .meaning24 .given .1, c .joined .ensures))
     (λ c. rw (c .before .before .meaning25 .given .1, c .tempo .ensures))
     (λ c. rw (c .before .before .meaning26 .given .1, c .alone .ensures))
