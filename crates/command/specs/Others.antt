@@ -5,6 +5,7 @@
 -- Row, row     a row of the table
 -- pulse, single, joined    the rows, in the table's order: P-W; those whose first byte is one byte; those whose value begins in it
 -- found        the row that a first byte fits, or what else there is
+-- unassigned   27
 -- joinedOutcome, otherOutcome   the meaning of a pair by these rows; 'Unassigned: low bits 01 other than 01, and 8E AE CE EE'
 use Prim.Native.Nat.{ℕ, _+_, _*_}
 use mathlib.Core.List.{List, [], _∷_}

@@ -1,3 +1,4 @@
 pub mod Past
 pub mod Parts
 pub mod Cut
+pub mod Marks

@@ -4,7 +4,7 @@ ghost use mathlib.Core.Path.{_≡_};
 ghost use Prim.Native.Nat.{_+_, _≤_};
 ghost use lib.ListN.{length, getD, take, drop};
 ghost use Rattle.fields.specs.Numbers.{be16, be32, le16};
-ghost use Rattle.fields.specs.Parts.{beforeZero, put};
+ghost use Rattle.fields.specs.Parts.{beforeZero, startOf, put};
 
 // internal: the byte at k, 0 past the end.
 pub fn byte_at(s: &[u8], k: usize) -> u8
@@ -75,6 +75,26 @@ pub fn text_length(s: &[u8]) -> usize
         n += 1;
     }
     s.len()
+}
+
+// internal: where the part of a list begins that has number marks before it; the end where there are fewer.
+pub fn start_of(list: &[u8], mark: u8, number: u16) -> usize
+    ensures { λ r. ⌜ r ≡ startOf (now (list .entry)) mark number ⌝ }
+{
+    let mut left = number;
+    let mut i = 0;
+    while i < list.len() {
+        if left == 0 {
+            return i;
+        }
+        if list[i] == mark {
+            left -= 1;
+            i += 1;
+        } else {
+            i += 1;
+        }
+    }
+    list.len()
 }
 
 // internal: the bytes of src in the place of as many of memory's from at on. Callers see that they fit.

@@ -24,26 +24,10 @@ fn put_from(out: &mut [u8], at: usize, text: &[u8], from: usize) -> usize {
     to
 }
 
-// Where a word of a list starts. One space stands between two words, and the first word has the number 0.
-fn start_of(list: &[u8], number: u8) -> usize {
-    let mut spaces = number;
-    let mut i = 0;
-    while i < list.len() {
-        if spaces == 0 {
-            return i;
-        }
-        if list[i] == b' ' {
-            spaces -= 1;
-        }
-        i += 1;
-    }
-    i
-}
-
-// A space, and a word of a list by its number. One literal for a list is proved sooner than one for each word.
+// A space, and a word of a list by its number, from 0 on; one space stands between two words. One literal for a list is proved sooner than one for each word.
 pub fn put_nth(out: &mut [u8], at: usize, list: &[u8], number: u8) -> usize {
     let to = put(out, at, b' ');
-    put_from(out, to, list, start_of(list, number))
+    put_from(out, to, list, fields::start_of(list, b' ', number as u16))
 }
 
 // The number of a word in a list of two, the first for no and the second for yes.

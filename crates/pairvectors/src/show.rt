@@ -17,26 +17,10 @@ fn write(text: &[u8]) {
     io::write_all(STDOUT_FILENO, text);
 }
 
-// Where a label of a list starts. A semicolon stands behind each label, and the first has the number 0.
-fn start_of(labels: &[u8], number: u16) -> usize {
-    let mut ends = number;
-    let mut i = 0;
-    while i < labels.len() {
-        if ends == 0 {
-            return i;
-        }
-        if labels[i] == b';' {
-            ends -= 1;
-        }
-        i += 1;
-    }
-    i
-}
-
-// Every list has the label that is asked for, so the tests hold; they are there for the part of the slice.
+// A label by its number, from 0 on; a semicolon stands behind each. Every list has the label that is asked for, so the tests hold; they are there for the part of the slice.
 fn write_label(labels: &[u8], number: u8) {
-    let from = start_of(labels, number as u16);
-    let to = start_of(labels, number as u16 + 1);
+    let from = fields::start_of(labels, b';', number as u16);
+    let to = fields::start_of(labels, b';', number as u16 + 1);
     if from < to {
         if to <= labels.len() {
             write(&labels[from..to - 1]);

@@ -2,9 +2,9 @@
 -- slotOf       a value of -below to above as an unsigned number: a negative one is taken from the whole
 -- ofSlot, signedByte   'P-S, F-S, AUT whole byte; SCA -7 to 7'
 -- jif          'ten bits', -200 to 757
--- dtn          '11 bits, less 2,048 when bit 4 is set'
--- tpsByte, tps 'TPS by 004', zero 0E
--- rtpByte, rtp 'RTP with octaves and remainder of one sign, zero 5B'
+-- dtnOf, dtn   '11 bits, less 2,048 when bit 4 is set'
+-- tpsOf, tps   'TPS by 004', zero 0E
+-- rtpOf, rtp   'RTP with octaves and remainder of one sign, zero 5B'
 use Prim.Native.Nat.{ℕ, _+_, _*_, _-_, _/_, _%_}
 use lib.Dec.{leb, ltb}
 use lib.IntN.{ℤ}

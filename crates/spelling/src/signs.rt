@@ -1,6 +1,7 @@
 // Signed values, each as the number that stands for it in the bytes.
 ghost use mathlib.Core.Path.{_≡_};
 ghost use Prim.Native.Nat.{_≤_};
+ghost use Rattle.signed.specs.Signs.{partsOf};
 ghost use Rattle.meaning.specs.Answers.{toldBytes};
 ghost use Rattle.spelling.specs.Signs.{slotOf, dtnOf, tpsOf, rtpOf, signedByte, jif, dtn, tps, rtp};
 use meaning::Spelling;
@@ -13,7 +14,7 @@ pub enum Slot {
 }
 
 // A value of -below to above, its negative numbers counted down from whole.
-fn slot_of(parts: Parts, below: u16, above: u16, whole: u16) -> Slot
+fn slot_in(parts: Parts, below: u16, above: u16, whole: u16) -> Slot
     requires { ⌜ below ≤ whole ⌝ }
     ensures { λ r. ⌜ r ≡ slotOf parts below above whole ⌝ }
 {
@@ -34,12 +35,19 @@ fn slot_of(parts: Parts, below: u16, above: u16, whole: u16) -> Slot
     }
 }
 
+fn slot_of(v: i32, below: u16, above: u16, whole: u16) -> Slot
+    requires { ⌜ below ≤ whole ⌝ }
+    ensures { λ r. ⌜ r ≡ slotOf (partsOf v) below above whole ⌝ }
+{
+    slot_in(signed::parts_of(v), below, above, whole)
+}
+
 // internal: P-S, F-S, AUT and SCA.
 pub fn signed_byte(first: u8, v: i32, below: u16, above: u16) -> Spelling
     requires { ⌜ below ≤ 256 ⌝ }
     ensures { λ r. ⌜ toldBytes r ≡ signedByte first v below above ⌝ }
 {
-    let slot = slot_of(signed::parts_of(v), below, above, 256);
+    let slot = slot_of(v, below, above, 256);
     match slot {
         Slot::Out => crate::none(),
         Slot::In(n) => crate::alone(first, n, 255),
@@ -50,7 +58,7 @@ pub fn signed_byte(first: u8, v: i32, below: u16, above: u16) -> Spelling
 pub fn jif(v: i32) -> Spelling
     ensures { λ r. ⌜ toldBytes r ≡ jif v ⌝ }
 {
-    let slot = slot_of(signed::parts_of(v), 200, 757, 1024);
+    let slot = slot_of(v, 200, 757, 1024);
     match slot {
         Slot::Out => crate::none(),
         Slot::In(n) => crate::joined(n, 1023, 0x3E, 64),
