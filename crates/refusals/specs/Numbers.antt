@@ -7,7 +7,8 @@ use Rattle.refusals.specs.declared.Refusal.{Refusal}
 
 pub data Reason : Type 0 where
   tooShort magic version dataOffset rsidReserved songs reservedBits musPayload noPayload pastMemory rsidLoad rsidInit freePages : Reason
-  unassignedPair valueRange : Reason
+  musShort musPastMemory voiceLength voicesPastFile textLines bytesAfterText : Reason
+  unassignedPair valueRange hltMisplaced structure hedZero tooDeep tooLong : Reason
   memorySize noPair noSuchSong : Reason
 
 abbrev pub numberOf : Reason → ℕ
@@ -24,8 +25,19 @@ numberOf pastMemory = 10
 numberOf rsidLoad = 11
 numberOf rsidInit = 12
 numberOf freePages = 13
+numberOf musShort = 21
+numberOf musPastMemory = 22
+numberOf voiceLength = 23
+numberOf voicesPastFile = 24
+numberOf textLines = 25
+numberOf bytesAfterText = 26
 numberOf unassignedPair = 27
 numberOf valueRange = 28
+numberOf hltMisplaced = 29
+numberOf structure = 30
+numberOf hedZero = 31
+numberOf tooDeep = 32
+numberOf tooLong = 33
 numberOf memorySize = 40
 numberOf noPair = 43
 numberOf noSuchSong = 44

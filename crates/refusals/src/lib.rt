@@ -31,10 +31,33 @@ pub const RSID_INIT: u32 = 12;
 
 pub const FREE_PAGES: u32 = 13;
 
-// A MUS pair
+// A MUS container
+pub const MUS_SHORT: u32 = 21;
+
+pub const MUS_PAST_MEMORY: u32 = 22;
+
+pub const VOICE_LENGTH: u32 = 23;
+
+pub const VOICES_PAST_FILE: u32 = 24;
+
+pub const TEXT_LINES: u32 = 25;
+
+pub const BYTES_AFTER_TEXT: u32 = 26;
+
+// A MUS voice; the first two also answer for a pair by itself
 pub const UNASSIGNED_PAIR: u32 = 27;
 
 pub const VALUE_RANGE: u32 = 28;
+
+pub const HLT_MISPLACED: u32 = 29;
+
+pub const STRUCTURE: u32 = 30;
+
+pub const HED_ZERO: u32 = 31;
+
+pub const TOO_DEEP: u32 = 32;
+
+pub const TOO_LONG: u32 = 33;
 
 // What a caller hands in
 pub const MEMORY_SIZE: u32 = 40;

@@ -1,0 +1,4 @@
+pub mod Stored
+pub mod ReadBack
+pub mod Phrases
+pub mod Related

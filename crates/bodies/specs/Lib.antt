@@ -1,0 +1,4 @@
+pub mod Voice
+pub mod Bodies
+pub mod Playing
+pub mod Order

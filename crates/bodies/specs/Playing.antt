@@ -1,0 +1,94 @@
+-- Document 01, 'Playing a voice': the played-out voice, its events, the pairs walked and the depth, by recursion over bodies.
+-- Interpretation   what a body's parts come to: nothing more, an event, a repeat, a DEF where it stands and a CAL, each before the rest of the body
+-- interpret        what a body comes to, where of k is what the body of DEF k comes to
+-- learn, phrases   what the bodies of the DEFs in a body come to, by number
+-- ofVoice          what a voice comes to: 'CAL k gives one copy of the body of DEF k'
+-- copies           'n copies of the body played out, one behind the other'
+-- playing, played  'An event gives itself. HED n, its body and its TAL give n copies .. DEF k, its body and its END give one copy. CAL k gives one copy'
+-- eventsOf         'events': how many the played-out voice has
+-- walking, walkedOf   'Pairs walked: ordinary pair 1; repeat 1 + n × (body + 1); DEF to END, body + 2; CAL, body + 2'
+-- nesting, depthOf    'Depth counts repeats and calls in progress at once'
+use Prim.Native.Nat.{ℕ, zero, suc, _+_, _*_, max}
+use mathlib.Core.List.{List, [], _∷_, _++_}
+use lib.Dec.{eqb}
+use lib.ListN.{length}
+use Rattle.meaning.specs.declared.Meaning.{Meaning}
+use Rattle.refusals.specs.Numbers.{Outcome}
+use Rattle.refusals.specs.Tests.{pick}
+use Rattle.bodies.specs.Bodies.{Event, Body, done, event, repeat, phrase, call, bodyOf}
+
+pub record Interpretation (A : Type 0) : Type 0 where
+  pub nothing : A
+  pub plain : Event → A → A
+  pub repeated : ℕ → A → A → A
+  pub defined : A → A → A
+  pub called : A → A → A
+
+unfoldable pub interpret : {A : Type 0} → Interpretation A → (ℕ → A) → Body → A
+interpret m of (done c) = m .nothing
+interpret m of (event e r) = m .plain e (interpret m of r)
+interpret m of (repeat n i r) = m .repeated n (interpret m of i) (interpret m of r)
+interpret m of (phrase k i r) = m .defined (interpret m of i) (interpret m of r)
+interpret m of (call k r) = m .called (of k) (interpret m of r)
+
+abbrev pub learn : {A : Type 0} → ℕ → A → (ℕ → A) → ℕ → A
+learn k a of j = pick (eqb k j) a (of j)
+
+unfoldable pub phrases : {A : Type 0} → Interpretation A → (ℕ → A) → Body → ℕ → A
+phrases m of (done c) = of
+phrases m of (event e r) = phrases m of r
+phrases m of (repeat n i r) = phrases m (phrases m of i) r
+phrases m of (phrase k i r) = phrases m (learn k (interpret m of i) of) r
+phrases m of (call k r) = phrases m of r
+
+abbrev pub phrasesOf : {A : Type 0} → Interpretation A → List (Outcome Meaning) → ℕ → A
+phrasesOf m v = phrases m (λ k. m .nothing) (bodyOf v)
+
+abbrev pub ofVoice : {A : Type 0} → Interpretation A → List (Outcome Meaning) → A
+ofVoice m v = interpret m (phrasesOf m v) (bodyOf v)
+
+unfoldable pub copies : ℕ → List Event → List Event
+copies zero es = []
+copies (suc n) es = es ++ copies n es
+
+abbrev pub playing : Interpretation (List Event)
+playing =
+    record {
+      nothing = [];
+      plain = λ e r. e ∷ r;
+      repeated = λ n b r. copies n b ++ r;
+      defined = λ b r. b ++ r;
+      called = λ b r. b ++ r;
+    }
+
+abbrev pub walking : Interpretation ℕ
+walking =
+    record {
+      nothing = 0;
+      plain = λ e r. 1 + r;
+      repeated = λ n b r. 1 + n * (b + 1) + r;
+      defined = λ b r. b + 2 + r;
+      called = λ b r. b + 2 + r;
+    }
+
+abbrev pub nesting : Interpretation ℕ
+nesting =
+    record {
+      nothing = 0;
+      plain = λ e r. r;
+      repeated = λ n b r. max (1 + b) r;
+      defined = λ b r. max b r;
+      called = λ b r. max (1 + b) r;
+    }
+
+unfoldable pub played : List (Outcome Meaning) → List Event
+played v = ofVoice playing v
+
+unfoldable pub eventsOf : List (Outcome Meaning) → ℕ
+eventsOf v = length (played v)
+
+unfoldable pub walkedOf : List (Outcome Meaning) → ℕ
+walkedOf v = ofVoice walking v
+
+unfoldable pub depthOf : List (Outcome Meaning) → ℕ
+depthOf v = ofVoice nesting v

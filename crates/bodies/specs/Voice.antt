@@ -1,0 +1,17 @@
+-- Document 01, 'MUS container' and 'Playing a voice': a voice is its stored pairs, and each pair is what it means.
+-- pairs    the pairs of a voice's bytes in stored order, each as its meaning, or 27 or 28
+-- pairAt   the pair with a number, counted from 0
+use Prim.Native.Nat.{ℕ, _+_, _*_}
+use mathlib.Core.List.{List, [], _∷_}
+use lib.ListN.{getD}
+use Rattle.meaning.specs.declared.Meaning.{Meaning}
+use Rattle.refusals.specs.Numbers.{Outcome}
+use Rattle.pair.specs.Pairs.{meaningOf}
+
+unfoldable pub pairs : List ℕ → List (Outcome Meaning)
+pairs [] = []
+pairs (a ∷ []) = []
+pairs (a ∷ b ∷ bs) = meaningOf a b ∷ pairs bs
+
+unfoldable pub pairAt : List ℕ → ℕ → Outcome Meaning
+pairAt bs i = meaningOf (getD bs (2 * i) 0) (getD bs (2 * i + 1) 0)

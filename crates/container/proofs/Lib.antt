@@ -1,0 +1,4 @@
+pub mod Lines
+pub mod Starts
+pub mod Memory
+pub mod Outcomes

@@ -1,0 +1,34 @@
+// What a pair is to the structure of its voice, told fast from its two bytes, for crates of ours.
+ghost use mathlib.Core.Path.{_≡_};
+ghost use Rattle.pair.specs.Pairs.{meaningOf};
+ghost use Rattle.kind.specs.Kinds.{kindOf};
+
+mod others;
+mod seconds;
+
+// An event, one of the pairs that make bodies, HLT, or a pair that is refused, with the number 27 or 28. HLT is an event too;
+// it has a kind of its own since tests 29 and 30 look for it.
+pub enum Kind {
+    Event,
+    Hed(u16),
+    Tal,
+    Def(u16),
+    End,
+    Cal(u16),
+    Hlt,
+    Bad(u32),
+}
+
+// internal: the kind of a pair. Notes, the commonest, come first, then the commands of the first byte 01.
+pub fn kind_of(first: u8, second: u8) -> Kind
+    ensures { λ r. ⌜ r ≡ kindOf (meaningOf first second) ⌝ }
+{
+    if first % 4 == 0 {
+        return Kind::Event;
+    }
+    if first == 1 {
+        seconds::second_kind(second)
+    } else {
+        others::other_kind(first, second)
+    }
+}

@@ -1,0 +1,4 @@
+pub mod Openers
+pub mod Singles
+pub mod Passes
+pub mod Sound

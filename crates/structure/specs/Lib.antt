@@ -1,0 +1,4 @@
+pub mod Tests
+pub mod Findings
+pub mod Steps
+pub mod Laws
