@@ -2,3 +2,4 @@ pub mod Stored
 pub mod ReadBack
 pub mod Phrases
 pub mod Related
+pub mod OnePass

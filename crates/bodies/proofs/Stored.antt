@@ -1,8 +1,8 @@
 -- The pairs of a voice by number, and the bodies that are open at one.
 -- length-pairs        a voice of n bytes has n / 2 pairs
 -- pairs-from, pairs-cons, pairs-end   the pairs from a number on
--- opened, bodyAt      the bodies open at a pair, and the rest of the innermost
--- opened-cons, opened-end   what is open at a pair, from what is open behind it
+-- open-cons, open-end   what is open at a pair, from what is open behind it
+-- event-at, hlt-at, bad-at, hed-at, tal-at, def-at, end-at, cal-at   so for each kind of pair
 use Prim.Native.Nat.{ℕ, zero, suc, _+_, _*_, _/_, _<_, _≤_}
 use mathlib.Core.Path.{_≡_, refl, sym, ap, _∙_}
 use mathlib.Core.List.{List, [], _∷_}
@@ -12,9 +12,12 @@ use lib.ListN.{length, drop, getD, drop-of-length-le}
 use lib.Seq.{drop-cons, drop-nil}
 use Rattle.meaning.specs.declared.Meaning.{Meaning}
 use Rattle.refusals.specs.Numbers.{Outcome}
+use Rattle.kind.specs.declared.Kind.{Kind}
+use Rattle.kind.specs.declared.Kind.the-variants as Kind
 use Rattle.kind.specs.Kinds.{kindOf}
 use Rattle.bodies.specs.Voice.{pairs, pairAt}
-use Rattle.bodies.specs.Bodies.{Body, inner, joined, eventAt, bodies}
+use Rattle.bodies.specs.Bodies.{Event, byTal, byEnd, Body, done, event, repeat, phrase, call, inner, outer, joined, eventAt, bodies}
+use Rattle.bodies.specs.Places.{openAt}
 
 pub length-pairs : (bs : List ℕ) → length (pairs bs) ≡ length bs / 2
 unfolding pairs
@@ -43,17 +46,54 @@ pairs-cons bs i h =
 pub pairs-end : (bs : List ℕ) (i : ℕ) → length bs / 2 ≤ i → drop i (pairs bs) ≡ []
 pairs-end bs i h = drop-of-length-le (pairs bs) {i = i} (omega (arith, length-pairs bs))
 
-unfoldable pub opened : List (Outcome Meaning) → ℕ → List Body
-opened v i = bodies i (drop i v)
+pub open-cons : (bs : List ℕ) (i : ℕ) → i < length bs / 2
+    → openAt (pairs bs) i ≡ joined (eventAt i (pairAt bs i)) (kindOf (pairAt bs i)) (openAt (pairs bs) (i + 1))
+unfolding openAt bodies
+open-cons bs i h = rw (pairs-cons bs i h)
 
-unfoldable pub bodyAt : List (Outcome Meaning) → ℕ → Body
-bodyAt v i = inner (opened v i)
+pub open-end : (bs : List ℕ) (i : ℕ) → length bs / 2 ≤ i → openAt (pairs bs) i ≡ []
+unfolding openAt bodies
+open-end bs i h = rw (pairs-end bs i h)
 
-pub opened-cons : (bs : List ℕ) (i : ℕ) → i < length bs / 2
-    → opened (pairs bs) i ≡ joined (eventAt i (pairAt bs i)) (kindOf (pairAt bs i)) (opened (pairs bs) (i + 1))
-unfolding opened bodies
-opened-cons bs i h = rw (pairs-cons bs i h)
+-- the body at a pair and the bodies around it, by the pair's kind
+module _ (bs : List ℕ) (i : ℕ) (h : i < length bs / 2) where
+  abbrev next : List Body
+  next = openAt (pairs bs) (i + 1)
 
-pub opened-end : (bs : List ℕ) (i : ℕ) → length bs / 2 ≤ i → opened (pairs bs) i ≡ []
-unfolding opened bodies
-opened-end bs i h = rw (pairs-end bs i h)
+  abbrev pub here : Event
+  here = eventAt i (pairAt bs i)
+
+  open-as : (z : Kind) → kindOf (pairAt bs i) ≡ z → openAt (pairs bs) i ≡ joined here z next
+  open-as z k = open-cons bs i h ∙ ap (λ (y : Kind). joined here y next) k
+
+  pub event-at : kindOf (pairAt bs i) ≡ Kind.Event → openAt (pairs bs) i ≡ event here (inner next) ∷ outer next
+  unfolding joined
+  event-at k = open-as Kind.Event k
+
+  pub hlt-at : kindOf (pairAt bs i) ≡ Kind.Hlt → openAt (pairs bs) i ≡ event here (inner next) ∷ outer next
+  unfolding joined
+  hlt-at k = open-as Kind.Hlt k
+
+  pub bad-at : (n : ℕ) → kindOf (pairAt bs i) ≡ Kind.Bad n → openAt (pairs bs) i ≡ event here (inner next) ∷ outer next
+  unfolding joined
+  bad-at n k = open-as (Kind.Bad n) k
+
+  pub hed-at : (n : ℕ) → kindOf (pairAt bs i) ≡ Kind.Hed n → openAt (pairs bs) i ≡ repeat n (inner next) (inner (outer next)) ∷ outer (outer next)
+  unfolding joined
+  hed-at n k = open-as (Kind.Hed n) k
+
+  pub tal-at : kindOf (pairAt bs i) ≡ Kind.Tal → openAt (pairs bs) i ≡ done byTal ∷ next
+  unfolding joined
+  tal-at k = open-as Kind.Tal k
+
+  pub def-at : (n : ℕ) → kindOf (pairAt bs i) ≡ Kind.Def n → openAt (pairs bs) i ≡ phrase n (inner next) (inner (outer next)) ∷ outer (outer next)
+  unfolding joined
+  def-at n k = open-as (Kind.Def n) k
+
+  pub end-at : kindOf (pairAt bs i) ≡ Kind.End → openAt (pairs bs) i ≡ done byEnd ∷ next
+  unfolding joined
+  end-at k = open-as Kind.End k
+
+  pub cal-at : (n : ℕ) → kindOf (pairAt bs i) ≡ Kind.Cal n → openAt (pairs bs) i ≡ call n (inner next) ∷ outer next
+  unfolding joined
+  cal-at n k = open-as (Kind.Cal n) k

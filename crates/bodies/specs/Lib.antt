@@ -2,3 +2,5 @@ pub mod Voice
 pub mod Bodies
 pub mod Playing
 pub mod Order
+pub mod OnePass
+pub mod Places

@@ -1,0 +1,4 @@
+pub mod Sums
+pub mod Readings
+pub mod Kept
+pub mod Capped

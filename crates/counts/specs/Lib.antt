@@ -1,0 +1,4 @@
+pub mod Counting
+pub mod Small
+pub mod Measures
+pub mod Limits

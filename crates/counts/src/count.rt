@@ -1,0 +1,97 @@
+// Counts added up. Events and pairs walked stop at 1,048,577, one more than 33 lets pass, so that no sum outgrows its number; the
+// laws show that the stop never shows in an answer.
+ghost use mathlib.Core.Path.{_≡_};
+ghost use Prim.Native.Nat.{_<_, _≤_, max};
+ghost use Rattle.counts.specs.Counting.{cap, join, none, single, passes, standing, again};
+ghost use Rattle.counts.specs.Small.{Small};
+
+// The events and pairs walked of a body, and its depth.
+pub struct Counts {
+    pub events: u32,
+    pub walked: u32,
+    pub depth: u32,
+}
+
+fn capped(x: u32) -> u32
+    ensures { λ r. ⌜ r ≡ cap x ⌝ }
+{
+    if x < 1048577 { x } else { 1048577 }
+}
+
+fn greater(a: u32, b: u32) -> u32
+    ensures { λ r. ⌜ r ≡ max a b ⌝ }
+{
+    if a < b { b } else { a }
+}
+
+// Counts with more behind them. No sum of callers is too large for its number.
+fn with(a: Counts, b: Counts) -> Counts
+    requires { ⌜ Small a × (b .events ≤ 267387391) × (b .walked ≤ 267387391) ⌝ }
+    ensures { λ r. ⌜ r ≡ join a b ⌝ }
+{
+    Counts {
+        events: capped(a.events + b.events),
+        walked: capped(a.walked + b.walked),
+        depth: greater(a.depth, b.depth),
+    }
+}
+
+pub fn with_event(a: Counts) -> Counts
+    requires { ⌜ Small a ⌝ }
+    ensures { λ r. ⌜ r ≡ join a single ⌝ }
+{
+    with(
+        a,
+        Counts {
+            events: 1,
+            walked: 1,
+            depth: 0,
+        },
+    )
+}
+
+// HED n, its body and its TAL: 1 + n × (body + 1).
+pub fn with_repeat(a: Counts, n: u16, b: Counts) -> Counts
+    requires { ⌜ Small a × Small b × (n < 256) ⌝ }
+    ensures { λ r. ⌜ r ≡ join a (passes n b) ⌝ }
+{
+    let times = n as u32;
+    with(
+        a,
+        Counts {
+            events: times * b.events,
+            walked: 1 + times * (b.walked + 1),
+            depth: 1 + b.depth,
+        },
+    )
+}
+
+// DEF to END: body + 2. A DEF counts no depth.
+pub fn with_phrase(a: Counts, b: Counts) -> Counts
+    requires { ⌜ Small a × Small b ⌝ }
+    ensures { λ r. ⌜ r ≡ join a (standing b) ⌝ }
+{
+    with(
+        a,
+        Counts {
+            events: b.events,
+            walked: b.walked + 2,
+            depth: b.depth,
+        },
+    )
+}
+
+// CAL: body + 2.
+pub fn with_call(a: Counts, b: Counts) -> Counts
+    requires { ⌜ Small a × Small b ⌝ }
+    ensures { λ r. ⌜ r ≡ join a (again b) ⌝ }
+{
+    with(
+        a,
+        Counts {
+            events: b.events,
+            walked: b.walked + 2,
+            depth: 1 + b.depth,
+        },
+    )
+}

@@ -1,0 +1,32 @@
+-- `mus::text_line` meets its contract.
+use borrow.Author.Needs.{needs}
+use Prim.Native.Nat.{ℕ}
+use mathlib.Core.Path.{sym, ap, subst, _∙_}
+use Rattle.refusals.specs.Numbers.{Outcome}
+use Rattle.container.specs.declared.Span.{Span}
+use Rattle.mus.specs.declared.Song.{Song}
+use Rattle.mus.specs.Song.{partOf, told}
+use Rattle.mus.specs.Text.{lineOf, textLine}
+use Rattle.mus.proofs.text_line.Statement.{statement}
+use Rattle.mus.proofs.text_line.Tie as tie
+
+returns : tie.Need-returns
+unfolding textLine
+returns c = c .part .ensures ∙ ap (λ (o : Outcome Song). lineOf (c .before .before .before .before .before .args .file .now) o (c .before .before .before .before .before .args .number)) (ap told (sym (c .before .enum-told .given .1)) ∙ c .before .before .before .accept .ensures)
+
+returns-2 : tie.Need-returns-2
+unfolding textLine
+returns-2 c = c .part2 .ensures ∙ ap (partOf (c .before .before .before .before .before .before .before .args .file .now)) (c .before .line-span .ensures) ∙ ap (λ (o : Outcome Song). lineOf (c .before .before .before .before .before .before .before .args .file .now) o (c .before .before .before .before .before .before .before .args .number)) (ap told (sym (c .before .before .before .answer .given .1)) ∙ c .before .before .before .before .before .accept .ensures)
+
+pub text-line-spec : {M : Type 1} → statement M
+text-line-spec =
+    tie.close
+    (tie.spec
+    (λ c κs. search needs)
+    (λ c. search needs)
+    (λ c κs. search needs)
+    (λ c. search needs)
+    (λ c κs. search needs)
+    (λ c κs. search needs)
+    returns
+    returns-2)

@@ -1,0 +1,5 @@
+pub mod Voices
+pub mod Song
+pub mod Bounds
+pub mod Text
+pub mod Laws

@@ -1,0 +1,55 @@
+-- Document 01, 'MUS container': 'Order: 21, 22, 23, 24, 25, 26. Then voice 1, 2, 3'; and what an accepted file says of itself.
+-- next          what comes after a part that is accepted; a refusal stands
+-- partOf        the bytes of a file that a span names
+-- voiceIn       the voice at a span of a file
+-- songIn        voice 1, 2, 3 of a file whose container is right
+-- musOutcome    a file accepted or refused
+-- told          what an answer says
+use Prim.Native.Nat.{ℕ}
+use mathlib.Core.List.{List}
+use lib.ListN.{take, drop}
+use Rattle.refusals.specs.Numbers.{Outcome}
+use Rattle.refusals.specs.Numbers.Outcome.{accepted, refused}
+use Rattle.container.specs.declared.Span.{Span}
+use Rattle.container.specs.declared.Layout.{Layout}
+use Rattle.container.specs.Layout.{containerOutcome}
+use Rattle.mus.specs.declared.Voice.{Voice}
+use Rattle.mus.specs.declared.Song.{Song}
+use Rattle.mus.specs.declared.Reading.{Reading}
+use Rattle.mus.specs.declared.Reading.the-variants.{Accepted, Refused}
+use Rattle.mus.specs.Voices.{voiceOutcome}
+
+abbrev pub next : {A B : Type 0} → Outcome A → (A → Outcome B) → Outcome B
+next (accepted a) f = f a
+next (refused number place) f = refused number place
+
+abbrev pub partOf : List ℕ → Span → List ℕ
+partOf f s = take (s .len) (drop (s .from) f)
+
+abbrev pub voiceIn : List ℕ → Span → Outcome Voice
+voiceIn f s = voiceOutcome (s .from) (partOf f s)
+
+abbrev pub songWith : Layout → Voice → Voice → Voice → Song
+songWith l v1 v2 v3 =
+    record {
+      load = l .load;
+      voice1 = v1;
+      voice2 = v2;
+      voice3 = v3;
+      line1 = l .line1;
+      line2 = l .line2;
+      line3 = l .line3;
+      line4 = l .line4;
+      line5 = l .line5;
+    }
+
+abbrev pub songIn : List ℕ → Layout → Outcome Song
+songIn f l =
+    next (voiceIn f (l .voice1)) (λ v1. next (voiceIn f (l .voice2)) (λ v2. next (voiceIn f (l .voice3)) (λ v3. accepted (songWith l v1 v2 v3))))
+
+unfoldable pub musOutcome : List ℕ → Outcome Song
+musOutcome f = next (containerOutcome f) (λ l. songIn f l)
+
+abbrev pub told : Reading → Outcome Song
+told (Accepted s) = accepted s
+told (Refused x) = refused (x .number) (x .place)

@@ -1,0 +1,26 @@
+-- Document 01, 'MUS container': 'Text is five lines', each a part of the lent bytes.
+-- lineSpan   where the line with a number lies, from 1 to 5; for any other number nothing (house)
+-- lineOf     a line of an accepted file; of a refused file nothing (house)
+-- textLine   a file's line
+use Prim.Native.Nat.{ℕ}
+use mathlib.Core.List.{List, []}
+use lib.Dec.{eqb}
+use Rattle.refusals.specs.Numbers.{Outcome}
+use Rattle.refusals.specs.Numbers.Outcome.{accepted, refused}
+use Rattle.refusals.specs.Tests.{pick}
+use Rattle.container.specs.declared.Span.{Span}
+use Rattle.mus.specs.declared.Song.{Song}
+use Rattle.mus.specs.Song.{partOf, musOutcome}
+
+abbrev pub lineSpan : Song → ℕ → Span
+lineSpan s n =
+    pick (eqb n 1) (s .line1)
+    (pick (eqb n 2) (s .line2)
+    (pick (eqb n 3) (s .line3) (pick (eqb n 4) (s .line4) (pick (eqb n 5) (s .line5) (record { from = 0; len = 0 })))))
+
+abbrev pub lineOf : List ℕ → Outcome Song → ℕ → List ℕ
+lineOf f (accepted s) n = partOf f (lineSpan s n)
+lineOf f (refused number place) n = []
+
+unfoldable pub textLine : List ℕ → ℕ → List ℕ
+textLine f n = lineOf f (musOutcome f) n

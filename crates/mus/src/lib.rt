@@ -1,0 +1,64 @@
+// Sidplayer MUS files in PRG form: accepted or refused, their voices counted without being played, their text shown. Every call
+// answers for every file and every number; none has a requires.
+ghost use mathlib.Core.Path.{_≡_};
+ghost use Rattle.mus.specs.Song.{musOutcome, told};
+ghost use Rattle.mus.specs.Text.{textLine};
+use container::Container;
+use container::Span;
+use refusals::Refusal;
+
+mod voices;
+
+// A voice of an accepted file: the file offset of its first pair, its length in bytes, and how many events and pairs walked it has when
+// played.
+pub struct Voice {
+    pub offset: usize,
+    pub length: usize,
+    pub events: u32,
+    pub walked: u32,
+}
+
+// What an accepted file says of itself: its load address, its voices, and where its five text lines lie.
+pub struct Song {
+    pub load: u16,
+    pub voice1: Voice,
+    pub voice2: Voice,
+    pub voice3: Voice,
+    pub line1: Span,
+    pub line2: Span,
+    pub line3: Span,
+    pub line4: Span,
+    pub line5: Span,
+}
+
+// The answer to a file.
+pub enum Reading {
+    Accepted(Song),
+    Refused(Refusal),
+}
+
+// Accepts a file, or gives the first refusal that applies: 21 to 26, then voice 1, 2 and 3, each 27 to 33.
+pub fn accept(file: &[u8]) -> Reading
+    ensures { λ r. ⌜ told r ≡ musOutcome (now (file .entry)) ⌝ }
+{
+    match container::read_container(file) {
+        Container::Refused(x) => Reading::Refused(x),
+        Container::Fits(l) => voices::accept_voices(file, l),
+    }
+}
+
+// A text line of an accepted file by its number, 1 to 5; of a refused file, and for any other number, nothing.
+pub fn text_line(file: &[u8], number: u64) -> &[u8]
+    ensures { λ r. ⌜ now r ≡ textLine (now (file .entry)) number ⌝ }
+{
+    let answer = accept(file);
+    match answer {
+        Reading::Refused(_) => fields::part(file, 0, 0),
+        Reading::Accepted(song) => {
+            let span = voices::line_span(song, number);
+            let from = span.from;
+            let len = span.len;
+            fields::part(file, from, len)
+        }
+    }
+}

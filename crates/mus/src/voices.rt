@@ -1,0 +1,139 @@
+// The voices of a file whose container is right.
+ghost use mathlib.Core.Path.{_≡_};
+ghost use Prim.Native.Nat.{_+_, _*_, _≤_};
+ghost use Rattle.refusals.specs.Numbers.Outcome.{refused};
+ghost use lib.ListN.{length};
+ghost use Rattle.bodies.specs.Voice.{pairs};
+ghost use Rattle.bodies.specs.Order as order;
+ghost use Rattle.counts.specs.Limits.{countOutcome};
+ghost use Rattle.mus.specs.Voices.{limited, voiceOutcome, toldVoice};
+ghost use Rattle.mus.specs.Song.{voiceIn, songWith, songIn, told};
+ghost use Rattle.mus.specs.Bounds.{InFile};
+ghost use Rattle.mus.specs.Text.{lineSpan};
+use crate::Reading;
+use crate::Song;
+use crate::Voice;
+use container::Layout;
+use container::Span;
+use counts::Counted;
+use refusals::Refusal;
+use structure::Finding;
+
+// The answer to a voice.
+pub enum Heard {
+    Sound(Voice),
+    Refused(Refusal),
+}
+
+// The refusal of a pair by its number in the voice, with its file offset.
+fn refused_at(number: u32, offset: usize, i: usize) -> Heard
+    requires { ⌜ (offset ≤ 65536) × (i ≤ 65536) ⌝ }
+    ensures { λ r. ⌜ toldVoice r ≡ refused number (offset + 2 * i) ⌝ }
+{
+    Heard::Refused(Refusal {
+        number,
+        place: offset + 2 * i,
+    })
+}
+
+// 32 and 33 with the place of the voice's first pair, of a voice that 27 to 31 do not refuse; else the voice with its counts.
+fn counted(voice: &[u8], offset: usize) -> Heard
+    requires { ⌜ (length (now voice) ≤ 65536) × order.Sound (pairs (now voice)) ⌝ }
+    ensures { λ r. ⌜ toldVoice r ≡ limited offset (length (now (voice .entry))) (countOutcome (pairs (now (voice .entry)))) ⌝ }
+{
+    match counts::count_voice(voice) {
+        Counted::Within(events, walked) => Heard::Sound(Voice {
+            offset,
+            length: voice.len(),
+            events,
+            walked,
+        }),
+        Counted::Off(number) => Heard::Refused(Refusal {
+            number,
+            place: offset,
+        }),
+    }
+}
+
+// A voice by its own bytes and the file offset of its first pair: 27 to 29, then 30 and 31, then 32, then 33.
+fn accept_voice(voice: &[u8], offset: usize) -> Heard
+    requires { ⌜ (length (now voice) ≤ 65536) × (offset ≤ 65536) ⌝ }
+    ensures { λ r. ⌜ toldVoice r ≡ voiceOutcome offset (now (voice .entry)) ⌝ }
+{
+    match structure::pairs_finding(voice) {
+        Finding::At(number, i) => refused_at(number, offset, i),
+        Finding::Clear => match structure::structure_finding(voice) {
+            Finding::At(number, i) => refused_at(number, offset, i),
+            Finding::Clear => counted(voice, offset),
+        },
+    }
+}
+
+fn accept_span(file: &[u8], span: Span) -> Heard
+    requires { ⌜ (length (now file) ≤ 65536) × (span .from ≤ 65536) ⌝ }
+    ensures { λ r. ⌜ toldVoice r ≡ voiceIn (now (file .entry)) span ⌝ }
+{
+    let from = span.from;
+    let len = span.len;
+    accept_voice(fields::part(file, from, len), from)
+}
+
+// Voice 1, 2, 3.
+pub fn accept_voices(file: &[u8], l: Layout) -> Reading
+    requires { ⌜ InFile (now file) l ⌝ }
+    ensures { λ r. ⌜ told r ≡ songIn (now (file .entry)) l ⌝ }
+{
+    match accept_span(file, l.voice1) {
+        Heard::Refused(x) => Reading::Refused(x),
+        Heard::Sound(voice1) => match accept_span(file, l.voice2) {
+            Heard::Refused(x) => Reading::Refused(x),
+            Heard::Sound(voice2) => match accept_span(file, l.voice3) {
+                Heard::Refused(x) => Reading::Refused(x),
+                Heard::Sound(voice3) => Reading::Accepted(song_of(l, voice1, voice2, voice3)),
+            },
+        },
+    }
+}
+
+fn song_of(l: Layout, voice1: Voice, voice2: Voice, voice3: Voice) -> Song
+    ensures { λ r. ⌜ r ≡ songWith l voice1 voice2 voice3 ⌝ }
+{
+    let line1 = l.line1;
+    let line2 = l.line2;
+    let line3 = l.line3;
+    let line4 = l.line4;
+    let line5 = l.line5;
+    Song {
+        load: l.load,
+        voice1,
+        voice2,
+        voice3,
+        line1,
+        line2,
+        line3,
+        line4,
+        line5,
+    }
+}
+
+// Where a line lies, by its number from 1 to 5.
+pub fn line_span(song: Song, number: u64) -> Span
+    ensures { λ r. ⌜ r ≡ lineSpan song number ⌝ }
+{
+    if number == 1 {
+        return song.line1;
+    }
+    if number == 2 {
+        return song.line2;
+    }
+    if number == 3 {
+        return song.line3;
+    }
+    if number == 4 {
+        return song.line4;
+    }
+    if number == 5 {
+        return song.line5;
+    }
+    Span { from: 0, len: 0 }
+}
