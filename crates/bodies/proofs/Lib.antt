@@ -3,3 +3,4 @@ pub mod ReadBack
 pub mod Phrases
 pub mod Related
 pub mod OnePass
+pub mod Cells

@@ -9,7 +9,7 @@ use Rattle.meaning.specs.declared.Meaning.{Meaning}
 use Rattle.refusals.specs.Numbers.{Outcome}
 use Rattle.bodies.specs.Bodies.{Body, done, event, repeat, phrase, call, bodyOf}
 use Rattle.bodies.specs.Playing.{Interpretation, interpret, learn, phrases, phrasesOf, ofVoice}
-use Rattle.bodies.specs.Order.{also, closes, Flat, Ordered, none-closed, Sound}
+use Rattle.bodies.specs.Order.{also, closes, Ordered, none-closed, Sound}
 use Rattle.bodies.specs.OnePass.{reading}
 use Rattle.bodies.proofs.Phrases.{closed-more, closed-kept, flat-closes, flat-phrases, Agree, agree, keep}
 

@@ -4,10 +4,10 @@
 -- length-copies   n copies have n times as many events
 -- events-walked   a voice has no more events than pairs walked
 use Prim.Native.Nat.{ℕ, zero, suc, _+_, _*_, _≤_}
-use mathlib.Core.Path.{_≡_, refl, sym, ap, _∙_}
+use mathlib.Core.Path.{_≡_, sym, _∙_}
 use mathlib.Core.Bool.{Bool, true, false}
-use mathlib.Core.List.{List, [], _∷_, _++_}
-use native.Mathlib.Nat.{mul-le-mul-right, le-refl, suc-mul, zero-mul}
+use mathlib.Core.List.{List}
+use native.Mathlib.Nat.{le-refl, suc-mul, zero-mul}
 use native.Mathlib.Omega.{arith}
 use lib.Dec.{eqb}
 use lib.ListN.{length, length-append}

@@ -4,14 +4,12 @@
 -- open-cons, open-end   what is open at a pair, from what is open behind it
 -- event-at, hlt-at, bad-at, hed-at, tal-at, def-at, end-at, cal-at   so for each kind of pair
 use Prim.Native.Nat.{ℕ, zero, suc, _+_, _*_, _/_, _<_, _≤_}
-use mathlib.Core.Path.{_≡_, refl, sym, ap, _∙_}
+use mathlib.Core.Path.{_≡_, refl, ap, _∙_}
 use mathlib.Core.List.{List, [], _∷_}
 use native.Mathlib.Numerals.{add-one}
 use native.Mathlib.Omega.{arith}
-use lib.ListN.{length, drop, getD, drop-of-length-le}
+use lib.ListN.{length, drop, drop-of-length-le}
 use lib.Seq.{drop-cons, drop-nil}
-use Rattle.meaning.specs.declared.Meaning.{Meaning}
-use Rattle.refusals.specs.Numbers.{Outcome}
 use Rattle.kind.specs.declared.Kind.{Kind}
 use Rattle.kind.specs.declared.Kind.the-variants as Kind
 use Rattle.kind.specs.Kinds.{kindOf}

@@ -1,9 +1,10 @@
-// The stored pairs of a voice by number, for crates of ours; the definitions of bodies are in specs/.
+// The stored pairs of a voice by number, and what each is to the bodies, for crates of ours; the definitions of bodies are in specs/.
 ghost use mathlib.Core.Path.{_≡_};
 ghost use Prim.Native.Nat.{_+_, _*_, _<_};
 ghost use lib.ListN.{length};
 ghost use Rattle.kind.specs.Kinds.{kindOf, Numbered};
 ghost use Rattle.bodies.specs.Voice.{pairAt};
+ghost use Rattle.bodies.specs.Places.{IsPart};
 use kind::Kind;
 
 // internal: what pair number i of a voice's bytes is to the structure. Callers see that the pair is there.
@@ -12,4 +13,30 @@ pub fn kind_at(voice: &[u8], i: usize) -> Kind
     ensures { λ r. ⌜ (r ≡ kindOf (pairAt (now (voice .entry)) i)) × Numbered r ⌝ }
 {
     kind::kind_of(voice[2 * i], voice[2 * i + 1])
+}
+
+// What a pair is to the bodies: an event, a HED with its number of passes, a DEF or a CAL with its number, or a TAL or END.
+pub enum Part {
+    Plain,
+    Repeat(u16),
+    Phrase(u16),
+    Call(u16),
+    Close,
+}
+
+// internal: pair number i of a voice's bytes as a part of its bodies.
+pub fn part_at(voice: &[u8], i: usize) -> Part
+    requires { ⌜ 2 * i + 1 < length (now voice) ⌝ }
+    ensures { λ r. ⌜ IsPart (now (voice .entry)) i r ⌝ }
+{
+    match kind_at(voice, i) {
+        Kind::Event => Part::Plain,
+        Kind::Hed(n) => Part::Repeat(n),
+        Kind::Tal => Part::Close,
+        Kind::Def(k) => Part::Phrase(k),
+        Kind::End => Part::Close,
+        Kind::Cal(k) => Part::Call(k),
+        Kind::Hlt => Part::Plain,
+        Kind::Bad(_) => Part::Plain,
+    }
 }

@@ -3,10 +3,10 @@
 -- events-capped, walked-capped, depth-same   the counts of a voice and the definitions
 -- total-voice     the reading of a whole voice in one pass
 -- too-deep, too-long, within   what follows for 32, for 33 and for what is reported
-use Prim.Native.Nat.{ℕ, zero, suc, _+_, _*_, _<_, _≤_, max}
+use Prim.Native.Nat.{ℕ, zero, suc, _+_, _*_, _<_, _≤_}
 use mathlib.Core.Path.{_≡_, refl, ap, _∙_}
 use mathlib.Core.Bool.{false}
-use mathlib.Core.List.{List, [], _∷_, _++_}
+use mathlib.Core.List.{List}
 use native.Mathlib.Nat.{mul-le-mul-right, one-mul, zero-mul}
 use native.Mathlib.Decide.{decLt}
 use native.Mathlib.Omega.{arith}
@@ -16,7 +16,7 @@ use lib.ListN.{length, length-append}
 use Rattle.meaning.specs.declared.Meaning.{Meaning}
 use Rattle.refusals.specs.Numbers.{Outcome}
 use Rattle.bodies.specs.Voice.{pairs}
-use Rattle.bodies.specs.Bodies.{Event, bodyOf}
+use Rattle.bodies.specs.Bodies.{bodyOf}
 use Rattle.bodies.specs.Playing.{ofVoice, copies, playing, walking, nesting, played, eventsOf, walkedOf, depthOf}
 use Rattle.bodies.specs.Order.{Sound}
 use Rattle.bodies.specs.OnePass.{reading}
@@ -29,7 +29,8 @@ use Rattle.counts.specs.declared.Counted.the-variants.{Within, Off}
 use Rattle.counts.specs.Counting.{cap, join, counting}
 use Rattle.counts.specs.Measures.{heldIn, readAt, Measures}
 use Rattle.counts.specs.Limits.{countOutcome}
-use Rattle.counts.proofs.Kept.{blank, none-held}
+use Rattle.bodies.proofs.Cells.{blank}
+use Rattle.counts.proofs.Kept.{none-held}
 
 pub cap-mul : (n x y : ℕ) → cap x ≡ cap y → cap (n * x) ≡ cap (n * y)
 cap-mul zero x y e = rw (zero-mul x, zero-mul y)
@@ -85,7 +86,7 @@ module _ (bs : List ℕ) (s : Sound (pairs bs)) where
   v = pairs bs
 
   abbrev total : Counts
-  total = readAt bs (heldIn (blank 24) (blank 24) (blank 24)) 0 .total
+  total = readAt bs (heldIn (blank 24)) 0 .total
 
   total-voice : total ≡ ofVoice counting v
   unfolding readAt bodyAt openAt bodyOf
@@ -106,7 +107,7 @@ module _ (bs : List ℕ) (s : Sound (pairs bs)) where
   pub too-deep : 16 < total .depth → Off 32 ≡ countOutcome v
   too-deep h = rw (lt-ltb 16 (depthOf v) (omega (arith, total-depth)))
 
-  module _ (m : Extent) (e w d : List ℕ) (g : Measures bs (blank 24) (blank 24) (blank 24) 16 0 m e w d) where
+  module _ (m : Extent) (cells : List ℕ) (g : Measures bs (blank 24) 16 0 m cells) where
     shallow : ltb 16 (depthOf v) ≡ false
     shallow = le-ltb 16 (depthOf v) (let q = ap (λ (c : Counts). c .depth) (g .counts) in omega (arith, total-depth, g .low))
 

@@ -1,4 +1,4 @@
 pub mod Sums
-pub mod Readings
 pub mod Kept
+pub mod Readings
 pub mod Capped

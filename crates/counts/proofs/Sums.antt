@@ -2,12 +2,12 @@
 -- product        n passes over a body fit their number
 -- join-single, join-assoc, join-none, none-join   join is a sum that stops at the cap
 -- small-join     what it gives is small again
-use Prim.Native.Nat.{ℕ, _+_, _*_, _<_, _≤_, max}
-use mathlib.Core.Path.{_≡_, refl}
+use Prim.Native.Nat.{ℕ, _*_, _<_, _≤_}
+use mathlib.Core.Path.{_≡_}
 use native.Mathlib.Nat.{mul-le-mul}
 use native.Mathlib.Omega.{arith}
 use Rattle.counts.specs.declared.count.Counts.{Counts}
-use Rattle.counts.specs.Counting.{cap, join, none}
+use Rattle.counts.specs.Counting.{join, none}
 use Rattle.counts.specs.Small.{Small}
 
 pub product : (n x : ℕ) → n < 256 → x ≤ 1048578 → n * x ≤ 267387390

@@ -8,7 +8,6 @@
 -- counting       the counts of a body
 
 use Prim.Native.Nat.{ℕ, _+_, _*_, min, max}
-use lib.Dec.{ltb}
 use Rattle.bodies.specs.Playing.{Interpretation}
 use Rattle.counts.specs.declared.count.Counts.{Counts}
 

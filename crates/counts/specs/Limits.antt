@@ -1,7 +1,6 @@
 -- Document 01, 'MUS container' and 'Playing a voice': 'then 32, then 33', and what acceptance reports of a voice.
 -- limitTests     32: 'Depth counts repeats and calls in progress at once: at most 16'; 33: 'Pairs walked .. At most 1,048,576'
 -- countOutcome   the first of them that applies to a voice, or its events and pairs walked
-use Prim.Native.Nat.{ℕ}
 use mathlib.Core.List.{List, [], _∷_}
 use lib.Dec.{ltb}
 use Rattle.meaning.specs.declared.Meaning.{Meaning}

@@ -3,13 +3,24 @@
 ghost use mathlib.Core.Path.{_≡_};
 ghost use Prim.Native.Nat.{_<_, _≤_, max};
 ghost use Rattle.counts.specs.Counting.{cap, join, none, single, passes, standing, again};
-ghost use Rattle.counts.specs.Small.{Small};
+ghost use Rattle.counts.specs.Small.{Small, coded, decoded};
 
 // The events and pairs walked of a body, and its depth.
 pub struct Counts {
     pub events: u32,
     pub walked: u32,
     pub depth: u32,
+}
+
+// internal: of nothing.
+pub fn nothing() -> Counts
+    ensures { λ r. ⌜ r ≡ none ⌝ }
+{
+    Counts {
+        events: 0,
+        walked: 0,
+        depth: 0,
+    }
 }
 
 fn capped(x: u32) -> u32
@@ -36,6 +47,7 @@ fn with(a: Counts, b: Counts) -> Counts
     }
 }
 
+// internal: an event more.
 pub fn with_event(a: Counts) -> Counts
     requires { ⌜ Small a ⌝ }
     ensures { λ r. ⌜ r ≡ join a single ⌝ }
@@ -50,7 +62,7 @@ pub fn with_event(a: Counts) -> Counts
     )
 }
 
-// HED n, its body and its TAL: 1 + n × (body + 1).
+// internal: HED n, its body and its TAL: 1 + n × (body + 1).
 pub fn with_repeat(a: Counts, n: u16, b: Counts) -> Counts
     requires { ⌜ Small a × Small b × (n < 256) ⌝ }
     ensures { λ r. ⌜ r ≡ join a (passes n b) ⌝ }
@@ -66,7 +78,7 @@ pub fn with_repeat(a: Counts, n: u16, b: Counts) -> Counts
     )
 }
 
-// DEF to END: body + 2. A DEF counts no depth.
+// internal: DEF to END, body + 2. A DEF counts no depth.
 pub fn with_phrase(a: Counts, b: Counts) -> Counts
     requires { ⌜ Small a × Small b ⌝ }
     ensures { λ r. ⌜ r ≡ join a (standing b) ⌝ }
@@ -81,7 +93,7 @@ pub fn with_phrase(a: Counts, b: Counts) -> Counts
     )
 }
 
-// CAL: body + 2.
+// internal: CAL, body + 2.
 pub fn with_call(a: Counts, b: Counts) -> Counts
     requires { ⌜ Small a × Small b ⌝ }
     ensures { λ r. ⌜ r ≡ join a (again b) ⌝ }
@@ -94,4 +106,23 @@ pub fn with_call(a: Counts, b: Counts) -> Counts
             depth: 1 + b.depth,
         },
     )
+}
+
+// internal: counts in one number, for a phrase's cell.
+pub fn coded(a: Counts) -> u64
+    requires { ⌜ Small a ⌝ }
+    ensures { λ r. ⌜ r ≡ coded a ⌝ }
+{
+    (a.events as u64 * 2097152 + a.walked as u64) * 32 + a.depth as u64
+}
+
+// internal: the counts that a number holds.
+pub fn decoded(x: u64) -> Counts
+    ensures { λ r. ⌜ r ≡ decoded x ⌝ }
+{
+    Counts {
+        events: (x / 67108864 % 2097152) as u32,
+        walked: (x / 32 % 2097152) as u32,
+        depth: (x % 32) as u32,
+    }
 }

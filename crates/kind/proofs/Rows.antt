@@ -20,7 +20,6 @@ use Rattle.command.specs.Codes.{secondOutcome}
 use Rattle.command.specs.Signs.{detuningOf}
 use Rattle.command.specs.Others.{single, found, unassigned, joinedOutcome, otherOutcome}
 use Rattle.command.proofs.Firsts.{isOneOf, singles, pulse-as, single-missed, joined-as}
-use Rattle.kind.specs.declared.Kind.{Kind}
 use Rattle.kind.specs.declared.Kind.the-variants.{Event, Bad}
 use Rattle.kind.specs.Kinds.{kindOf}
 use Rattle.kind.specs.Bytes.{eventIf, secondKind}

@@ -2,7 +2,7 @@
 -- event too, with a kind of its own since tests 29 and 30 look for it; a pair that is refused is known by its number, 27 or 28.
 -- kindOf     a pair's kind, by what the pair means
 -- Numbered   the bounds of a kind's number: HED's is one byte, and DEF's and CAL's are 0 to 23
-use Prim.Native.Nat.{ℕ, _<_}
+use Prim.Native.Nat.{_<_}
 use Rattle.meaning.specs.declared.Meaning.{Meaning}
 use Rattle.meaning.specs.declared.Meaning.the-variants.{Note, Dcy, Rup, Cal, Bmp, Flt, Rng, Snc, Fx, Def, Atk, Sus, Lfo, Pv, Rdn, Wav, Fm, Rls, Res, ThreeOff, Vol, Tal, End, Hlt, Src, Dst, Pw, Tem, Utl, Pnt, Hed, Flg, Ps, Fs, Sca, Vdp, Vrt, Aut, Tps, Aux, Pvd, Pvr, Max, Utv, Fc, Rtp, Hld, Ms, Jif, Dtn, Por}
 use Rattle.refusals.specs.Numbers.{Outcome}

@@ -7,11 +7,10 @@
 -- in-file            what a right container says of the places of its voices
 -- container-refused, container-fits   a file by its container
 use Prim.Native.Nat.{ℕ, _+_, _*_, _≤_}
-use mathlib.Core.Path.{_≡_, refl, subst}
+use mathlib.Core.Path.{_≡_, subst}
 use mathlib.Core.List.{List}
 use native.Mathlib.Omega.{arith}
 use lib.ListN.{length, take, drop, length-take, length-drop}
-use Rattle.refusals.specs.Numbers.{Outcome}
 use Rattle.refusals.specs.Numbers.Outcome.{accepted, refused}
 use Rattle.container.specs.declared.Layout.{Layout}
 use Rattle.container.specs.Layout.{containerOutcome}

@@ -8,12 +8,10 @@
 -- told-once                       no two answers are told alike
 -- long-refused, cut-off           a file of more than 65,536 bytes is 22, and so is what is left of it that is as long
 -- line-text                       a line of an accepted file is the paper's line
-use Prim.Native.Nat.{ℕ, _+_, _<_}
+use Prim.Native.Nat.{ℕ, _<_}
 use mathlib.Core.Path.{_≡_, refl, sym, ap, _∙_, subst}
-use mathlib.Core.Bool.{Bool, true, false, _||_}
-use mathlib.Core.List.{List, [], _∷_}
+use mathlib.Core.List.{List}
 use native.Mathlib.Omega.{arith}
-use lib.Dec.{ltb}
 use borrow.Author.Tests.{lt-ltb, le-ltb}
 use lib.ListN.{length, take, length-take}
 use Rattle.meaning.specs.declared.Meaning.{Meaning}
@@ -36,9 +34,8 @@ use Rattle.structure.specs.declared.Finding.the-variants as Finding
 use Rattle.structure.specs.Tests.{start}
 use Rattle.structure.specs.Findings.{pairsTests, nestingsTests, pairsFinding, structureFinding, AllNone}
 use Rattle.structure.specs.Laws.{clear-none, none-clear}
-use Rattle.counts.specs.declared.Counted.{Counted}
-use Rattle.counts.specs.declared.Counted.the-variants.{Within, Off}
-use Rattle.counts.specs.Limits.{limitTests, unlessOff, countOutcome}
+use Rattle.counts.specs.declared.Counted.the-variants.{Within}
+use Rattle.counts.specs.Limits.{limitTests, unlessOff}
 use Rattle.mus.specs.declared.Voice.{Voice}
 use Rattle.mus.specs.declared.Song.{Song}
 use Rattle.mus.specs.declared.Reading.{Reading}

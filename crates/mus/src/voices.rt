@@ -78,7 +78,7 @@ fn accept_span(file: &[u8], span: Span) -> Heard
     accept_voice(fields::part(file, from, len), from)
 }
 
-// Voice 1, 2, 3.
+// internal: voice 1, 2, 3.
 pub fn accept_voices(file: &[u8], l: Layout) -> Reading
     requires { ⌜ InFile (now file) l ⌝ }
     ensures { λ r. ⌜ told r ≡ songIn (now (file .entry)) l ⌝ }
@@ -116,7 +116,7 @@ fn song_of(l: Layout, voice1: Voice, voice2: Voice, voice3: Voice) -> Song
     }
 }
 
-// Where a line lies, by its number from 1 to 5.
+// internal: where a line lies, by its number from 1 to 5.
 pub fn line_span(song: Song, number: u64) -> Span
     ensures { λ r. ⌜ r ≡ lineSpan song number ⌝ }
 {

@@ -2,23 +2,20 @@
 -- last-hed, last-def, any-def, any-open   what the tests ask of the openers, asked of the counts
 -- event-on, hed-off, hed-on, tal-off, tal-on, def-off, def-on, end-off, end-on, cal-off, cal-on, hlt-off, hlt-on   each step of the code
 use Prim.Native.Nat.{ℕ, zero, suc, _+_, _-_, _<_, _≤_}
-use mathlib.Core.Path.{_≡_, refl, sym, ap, _∙_}
+use mathlib.Core.Path.{_≡_, refl, sym}
 use mathlib.Core.Bool.{Bool, true, false, not, _&&_, _||_}
 use mathlib.Core.List.{List, [], _∷_}
 use native.Mathlib.Numerals.{add-one, sub-one}
 use native.Mathlib.Omega.{arith}
 use lib.Dec.{eqb}
 use borrow.Author.Tests.{eq-eqb, ne-eqb, eqb-true, eqb-false}
-use Rattle.refusals.specs.Tests.{firstOf, pick}
-use Rattle.refusals.specs.declared.Verdict.the-variants.{Passed, Failed}
-use Rattle.kind.specs.declared.Kind.{Kind}
+use Rattle.refusals.specs.Tests.{pick}
 use Rattle.kind.specs.declared.Kind.the-variants.{Event, Hed, Tal, Def, End, Cal, Hlt, Bad}
-use Rattle.bodies.specs.Order.{also}
 use Rattle.structure.specs.declared.nesting.Open.{Open}
 use Rattle.structure.specs.declared.nesting.Step.{Step}
 use Rattle.structure.specs.declared.nesting.Step.the-variants.{On, Closes, Off}
-use Rattle.structure.specs.Tests.{Opener, byHed, byDef, lastHed, lastDef, anyDef, any, nestingTests, openersAfter, closedAfter}
-use Rattle.structure.specs.Steps.{heds, openersOf, known, Few, Moves, Stepped}
+use Rattle.structure.specs.Tests.{Opener, byDef, lastHed, lastDef, anyDef, any, openersAfter}
+use Rattle.structure.specs.Steps.{heds, openersOf, Few, Stepped}
 
 some-left : (n : ℕ) → eqb (suc n) 0 ≡ false
 some-left n = ne-eqb (suc n) 0 (λ e. absurd (omega arith))

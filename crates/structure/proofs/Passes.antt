@@ -2,19 +2,16 @@
 -- is-last                                what the code asks for the last pair
 -- pair-failed, pair-passed, pair-end     27 to 29
 -- Seen, seen-start, nest-failed, nest-on, nest-closes, nest-end   30 and 31
-use Prim.Native.Nat.{ℕ, zero, suc, _+_, _/_, _<_, _≤_}
-use mathlib.Core.Path.{_≡_, refl, sym, ap, _∙_, subst, fun-ext}
-use mathlib.Core.Bool.{Bool, true, false, not, _||_}
-use mathlib.Core.List.{List, [], _∷_}
+use Prim.Native.Nat.{ℕ, _+_, _/_, _<_, _≤_}
+use mathlib.Core.Path.{_≡_, refl, sym, _∙_, subst, fun-ext}
+use mathlib.Core.Bool.{Bool, true, false, _||_}
+use mathlib.Core.List.{List, []}
 use native.Mathlib.Omega.{arith}
-use native.Mathlib.Decide.{ℕ-discrete, decLt}
+use native.Mathlib.Decide.{decLt}
 use lib.Dec.{eqb}
-use borrow.Author.Tests.{eq-eqb, ne-eqb, eqb-true, eqb-false}
+use borrow.Author.Tests.{eq-eqb, ne-eqb}
 use lib.ListN.{length, drop, getD, set, length-set}
-use lib.Seq.{getD-set-same, getD-set-other}
-use Rattle.meaning.specs.declared.Meaning.{Meaning}
-use Rattle.refusals.specs.Numbers.{Outcome}
-use Rattle.refusals.specs.Tests.{firstOf}
+use Rattle.refusals.specs.Tests.{firstOf, pick}
 use Rattle.refusals.specs.declared.Verdict.{Verdict}
 use Rattle.refusals.specs.declared.Verdict.the-variants.{Passed, Failed}
 use Rattle.kind.specs.declared.Kind.{Kind}
@@ -22,14 +19,15 @@ use Rattle.kind.specs.declared.Kind.the-variants.{Event, Hed, Tal, Def, End, Ca
 use Rattle.kind.specs.Kinds.{kindOf, Numbered}
 use Rattle.bodies.specs.Voice.{pairs, pairAt}
 use Rattle.bodies.specs.Order.{also, none-closed}
-use Rattle.bodies.proofs.Stored.{length-pairs, pairs-cons, pairs-end}
+use Rattle.bodies.proofs.Stored.{pairs-cons, pairs-end}
+use Rattle.bodies.proofs.Cells.{set-at, blank, blank-at}
 use Rattle.structure.specs.declared.Finding.the-variants.{Clear, At}
 use Rattle.structure.specs.declared.nesting.Open.{Open}
 use Rattle.structure.specs.declared.nesting.Step.{Step}
 use Rattle.structure.specs.declared.nesting.Step.the-variants.{On, Closes, Off}
-use Rattle.structure.specs.Tests.{pairTests, Nesting, nestingTests, openersAfter, closedAfter, misplaced, after, start}
-use Rattle.structure.specs.Findings.{firstAt, isLast, pairsTests, nestingsTests, pairsFinding, structureFinding}
-use Rattle.structure.specs.Steps.{openersOf, heds, known, numberIn, Few, Moves, Stepped}
+use Rattle.structure.specs.Tests.{pairTests, Nesting, nestingTests, closedAfter, after}
+use Rattle.structure.specs.Findings.{firstAt, isLast, pairsTests, nestingsTests, structureFinding}
+use Rattle.structure.specs.Steps.{openersOf, known, numberIn, Few, Moves, Stepped}
 
 module _ (bs : List ℕ) (i : ℕ) (h : i < length bs / 2) where
   is-last : isLast (drop (i + 1) (pairs bs)) ≡ eqb (i + 1) (length bs / 2)
@@ -80,14 +78,11 @@ asked-once (Bad n) o f = refl
 
 -- a cell set is a number more that is closed
 held-more : (cells : List ℕ) (k : ℕ) → k < length cells → held (set cells k 1) ≡ also k (held cells)
-held-more cells k h = fun-ext (λ j. go j)
+held-more cells k h = fun-ext (λ j. rw (set-at cells k j 1 h) (go (eqb k j) (getD cells j 0)))
   where
-    go : (j : ℕ) → held (set cells k 1) j ≡ also k (held cells) j
-    go j =
-        elim (ℕ-discrete k j) [
-          | yes p ↦ rw (eq-eqb k j p) (subst (λ (x : ℕ). eqb (getD (set cells k 1) x 0) 1 ≡ true) p (rw (getD-set-same cells k 1 0 h)))
-          | no q ↦ rw (ne-eqb k j q, getD-set-other cells k j 1 0 (λ e. q (sym e)))
-        ]
+    go : (t : Bool) (x : ℕ) → eqb (pick t 1 x) 1 ≡ t || eqb x 1
+    go true x = refl
+    go false x = refl
 
 module _ (bs cells : List ℕ) (o : Open) (i : ℕ) (s : Seen bs cells o i) (h : i < length bs / 2) where
   abbrev z : Kind
@@ -162,15 +157,6 @@ module _ (bs cells : List ℕ) (o : Open) (i : ℕ) (s : Seen bs cells o i) (h :
 
   pub step-few : {r : Step} (p : Open) (k : ℕ) → r ≡ Closes p k → Stepped y o (held cells n) r → k < 24
   step-few p k q g = subst (Stepped y o (held cells n)) q g .3
-
-abbrev blank : ℕ → List ℕ
-blank zero = []
-blank (suc n) = 0 ∷ blank n
-
-blank-at : (n k : ℕ) → getD (blank n) k 0 ≡ 0
-blank-at zero k = refl
-blank-at (suc n) zero = refl
-blank-at (suc n) (suc k) = blank-at n k
 
 pub none-held : held (blank 24) ≡ none-closed
 none-held = fun-ext (λ k. rw (blank-at 24 k))

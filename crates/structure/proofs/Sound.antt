@@ -12,7 +12,7 @@ use Rattle.kind.specs.declared.Kind.the-variants.{Event, Hed, Tal, Def, End, Ca
 use Rattle.kind.specs.Kinds.{kindOf}
 use Rattle.bodies.specs.Bodies as bodies
 use Rattle.bodies.specs.Bodies.{Closer, byTal, byEnd, byStop, Body, done, event, repeat, phrase, call, inner, outer, joined, eventAt, bodyOf}
-use Rattle.bodies.specs.Order.{also, closes, Flat, Ordered, Shut, Sound, none-closed}
+use Rattle.bodies.specs.Order.{also, closes, Flat, Ordered, Shut, Sound}
 use Rattle.bodies.proofs.Phrases.{differ, flat-closes}
 use Rattle.structure.specs.Tests.{pairTests, Opener, byHed, byDef, Nesting, anyDef, any, nestingTests, openersAfter, after, start}
 use Rattle.structure.specs.Findings.{isLast, pairsTests, nestingsTests, AllNone}

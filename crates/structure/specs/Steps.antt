@@ -6,13 +6,12 @@
 -- Few         bounds of the counts
 -- Moves       what is open behind a pair
 -- Stepped     what a step says: 30 and 31 pass and what is open and closed behind the pair, or which of them applies
-use Prim.Native.Nat.{ℕ, zero, suc, _+_, _<_, _≤_, max}
+use Prim.Native.Nat.{ℕ, zero, suc, _+_, _<_, _≤_}
 use mathlib.Core.Path.{_≡_}
 use mathlib.Core.Bool.{Bool}
 use mathlib.Core.List.{List, [], _∷_}
 use lib.Dec.{eqb}
 use Rattle.refusals.specs.Tests.{firstOf, pick}
-use Rattle.refusals.specs.declared.Verdict.{Verdict}
 use Rattle.refusals.specs.declared.Verdict.the-variants.{Passed, Failed}
 use Rattle.kind.specs.declared.Kind.{Kind}
 use Rattle.kind.specs.declared.Kind.the-variants.{Event, Hed, Tal, Def, End, Cal, Hlt, Bad}

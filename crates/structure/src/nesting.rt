@@ -23,7 +23,7 @@ pub enum Step {
     Off(u32),
 }
 
-// The number of a DEF or a CAL; 0 for any other pair.
+// internal: the number of a DEF or a CAL; 0 for any other pair.
 pub fn number_of(kind: Kind) -> usize
     ensures { λ r. ⌜ r ≡ numberIn kind ⌝ }
 {
@@ -39,7 +39,7 @@ pub fn number_of(kind: Kind) -> usize
     }
 }
 
-// A DEF or CAL is given whether its number is closed.
+// internal: 30 and 31 at a pair, and what is open behind it. A DEF or CAL is given whether its number is closed.
 pub fn pass(kind: Kind, o: Open, closed: bool) -> Step
     requires { ⌜ (o .inside < 65536) × (o .phrase ≤ 24) × Numbered kind ⌝ }
     ensures { λ r. ⌜ Stepped kind o closed r ⌝ }

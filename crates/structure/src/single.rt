@@ -18,7 +18,7 @@ fn unless_last(last: bool) -> Verdict
     }
 }
 
-// The first of 27 to 29 that applies to a pair, which is the voice's last or not.
+// internal: the first of 27 to 29 that applies to a pair, which is the voice's last or not.
 pub fn test_pair(kind: Kind, last: bool) -> Verdict
     ensures { λ r. ⌜ r ≡ firstOf (pairTests kind last) ⌝ }
 {

@@ -1,7 +1,6 @@
 -- `bodies::kind_at` meets its contract.
 use Prim.Native.Nat.{_+_, _*_}
 use borrow.Author.Needs.{needs}
-use lib.ListN.{getD}
 use mathlib.Core.Path.{subst, sym}
 use Rattle.kind.specs.Kinds.{Numbered}
 use Rattle.kind.specs.Laws.{kind-numbered}

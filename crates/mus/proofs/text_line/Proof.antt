@@ -1,9 +1,7 @@
 -- `mus::text_line` meets its contract.
 use borrow.Author.Needs.{needs}
-use Prim.Native.Nat.{ℕ}
-use mathlib.Core.Path.{sym, ap, subst, _∙_}
+use mathlib.Core.Path.{sym, ap, _∙_}
 use Rattle.refusals.specs.Numbers.{Outcome}
-use Rattle.container.specs.declared.Span.{Span}
 use Rattle.mus.specs.declared.Song.{Song}
 use Rattle.mus.specs.Song.{partOf, told}
 use Rattle.mus.specs.Text.{lineOf, textLine}
