@@ -3,3 +3,4 @@ pub mod Song
 pub mod Bounds
 pub mod Text
 pub mod Laws
+pub mod Example

@@ -2,6 +2,7 @@
 -- next          what comes after a part that is accepted; a refusal stands
 -- partOf        the bytes of a file that a span names
 -- voiceIn       the voice at a span of a file
+-- songWith      what a right container and its three voices say together
 -- songIn        voice 1, 2, 3 of a file whose container is right
 -- musOutcome    a file accepted or refused
 -- told          what an answer says

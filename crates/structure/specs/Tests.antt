@@ -5,11 +5,14 @@
 -- Opener            what a body was opened by: a HED, or a DEF with its number
 -- Nesting           at a pair: the openers still open, the last one first, and the numbers closed by END
 -- lastHed, lastDef, anyDef, any   whether the last opener still open is a HED, is a DEF; whether a DEF is open, whether anything is
--- misplaced         30: 'TAL without a HED still open and, in an open DEF, opened inside it; END without DEF or over a HED still open in it; DEF in DEF; a
---                   number defined twice in the voice; CAL of a number not yet closed by END; HLT with HED or DEF open'
+-- misplaced         30, case by case
 -- hedOfZero         'HED 0 is 31'
 -- nestingTests      30 and 31
--- openersAfter, closedAfter, after   what is open and closed behind a pair: 'TAL closes the last HED still open, END the open DEF'
+-- rest              the openers without the last one
+-- openersAfter      what is open behind a pair: 'TAL closes the last HED still open, END the open DEF'
+-- closedBy, closedAfter   the numbers closed behind an END, and behind a pair
+-- after             what is open and closed behind a pair
+-- start             what is open and closed before the first pair: nothing
 use Prim.Native.Nat.{ℕ}
 use mathlib.Core.Bool.{Bool, true, false, not, _||_}
 use mathlib.Core.List.{List, [], _∷_}
@@ -80,10 +83,15 @@ any (o ∷ os) = true
 abbrev pub misplaced : Kind → Nesting → Bool
 misplaced Event o = false
 misplaced (Hed n) o = false
+-- 'TAL without a HED still open and, in an open DEF, opened inside it': the last opener is a DEF, or there is none
 misplaced Tal o = not (lastHed (o .openers))
+-- 'DEF in DEF; a number defined twice in the voice'
 misplaced (Def k) o = anyDef (o .openers) || o .closed k
+-- 'END without DEF or over a HED still open in it': the last opener is a HED, or there is none
 misplaced End o = not (lastDef (o .openers))
+-- 'CAL of a number not yet closed by END'
 misplaced (Cal k) o = not (o .closed k)
+-- 'HLT with HED or DEF open'
 misplaced Hlt o = any (o .openers)
 misplaced (Bad n) o = false
 
