@@ -3,7 +3,7 @@ ghost use mathlib.Core.Path.{_≡_};
 ghost use Prim.Native.Nat.{_+_, _*_, _<_};
 ghost use lib.ListN.{length};
 ghost use Rattle.kind.specs.Kinds.{kindOf, Numbered};
-ghost use Rattle.bodies.specs.Voice.{pairAt};
+ghost use Rattle.bodies.specs.Voice.{pairAt, noteAt};
 ghost use Rattle.bodies.specs.Places.{IsPart};
 use kind::Kind;
 
@@ -13,6 +13,15 @@ pub fn kind_at(voice: &[u8], i: usize) -> Kind
     ensures { λ r. ⌜ (r ≡ kindOf (pairAt (now (voice .entry)) i)) × Numbered r ⌝ }
 {
     kind::kind_of(voice[2 * i], voice[2 * i + 1])
+}
+
+// internal: whether pair number i of a voice's bytes is a note, and so an event. Loops over pairs ask this first: most pairs are notes, and
+// a yes or no costs less than a kind.
+pub fn note_at(voice: &[u8], i: usize) -> bool
+    requires { ⌜ 2 * i + 1 < length (now voice) ⌝ }
+    ensures { λ r. ⌜ r ≡ noteAt (now (voice .entry)) i ⌝ }
+{
+    voice[2 * i] % 4 == 0
 }
 
 // What a pair is to the bodies: an event, a HED with its number of passes, a DEF or a CAL with its number, or a TAL or END.
@@ -29,6 +38,9 @@ pub fn part_at(voice: &[u8], i: usize) -> Part
     requires { ⌜ 2 * i + 1 < length (now voice) ⌝ }
     ensures { λ r. ⌜ IsPart (now (voice .entry)) i r ⌝ }
 {
+    if note_at(voice, i) {
+        return Part::Plain;
+    }
     match kind_at(voice, i) {
         Kind::Event => Part::Plain,
         Kind::Hed(n) => Part::Repeat(n),

@@ -1,10 +1,13 @@
 -- The two passes over the stored pairs, a pair at a time.
 -- is-last                                what the code asks for the last pair
--- pair-failed, pair-passed, pair-end     27 to 29
--- Seen, seen-start, nest-failed, nest-on, nest-closes, nest-end   30 and 31
+-- pair-failed, pair-passed, note-passed, pair-end   27 to 29
+-- asked-both                             a note that is not the last, as the code asks it
+-- held, nesting, Seen, seen-start        what is open and closed so far, as the code keeps it
+-- step-off, step-on, step-closes, step-few, note-on, nest-end   30 and 31
+-- number-few, none-held                  what the cells are asked for, and hold at first
 use Prim.Native.Nat.{ℕ, _+_, _/_, _<_, _≤_}
 use mathlib.Core.Path.{_≡_, refl, sym, _∙_, subst, fun-ext}
-use mathlib.Core.Bool.{Bool, true, false, _||_}
+use mathlib.Core.Bool.{Bool, true, false, not, _&&_, _||_}
 use mathlib.Core.List.{List, []}
 use native.Mathlib.Omega.{arith}
 use native.Mathlib.Decide.{decLt}
@@ -27,6 +30,7 @@ use Rattle.structure.specs.declared.nesting.Step.{Step}
 use Rattle.structure.specs.declared.nesting.Step.the-variants.{On, Closes, Off}
 use Rattle.structure.specs.Tests.{pairTests, Nesting, nestingTests, closedAfter, after}
 use Rattle.structure.specs.Findings.{firstAt, isLast, pairsTests, nestingsTests, structureFinding}
+use Rattle.structure.proofs.Openers.{event-on}
 use Rattle.structure.specs.Steps.{openersOf, known, numberIn, Few, Moves, Stepped}
 
 module _ (bs : List ℕ) (i : ℕ) (h : i < length bs / 2) where
@@ -47,6 +51,15 @@ module _ (bs : List ℕ) (i : ℕ) (h : i < length bs / 2) where
   pub pair-passed : verdict ≡ Passed → firstAt i (pairsTests (drop i (pairs bs))) ≡ firstAt (i + 1) (pairsTests (drop (i + 1) (pairs bs)))
   unfolding firstAt pairsTests
   pair-passed e = rw (pairs-cons bs i h, is-last, e)
+
+  -- a note that is not the last
+  pub note-passed : kindOf (pairAt bs i) ≡ Event → eqb (i + 1) (length bs / 2) ≡ false → firstAt i (pairsTests (drop i (pairs bs))) ≡ firstAt (i + 1) (pairsTests (drop (i + 1) (pairs bs)))
+  note-passed k l = pair-passed (rw (k, l))
+
+pub asked-both : (s t : Bool) → s && not t ≡ true → (s ≡ true) × (t ≡ false)
+asked-both true false e = (refl, refl)
+asked-both true true e = absurd (let z : _≡_ {A = ℕ} 0 1 = cc in omega arith)
+asked-both false t e = absurd (let z : _≡_ {A = ℕ} 0 1 = cc in omega arith)
 
 pub pair-end : (bs : List ℕ) (i : ℕ) → length bs / 2 ≤ i → firstAt i (pairsTests (drop i (pairs bs))) ≡ Clear
 unfolding firstAt pairsTests
@@ -157,6 +170,10 @@ module _ (bs cells : List ℕ) (o : Open) (i : ℕ) (s : Seen bs cells o i) (h :
 
   pub step-few : {r : Step} (p : Open) (k : ℕ) → r ≡ Closes p k → Stepped y o (held cells n) r → k < 24
   step-few p k q g = subst (Stepped y o (held cells n)) q g .3
+
+-- a note changes nothing
+pub note-on : (bs cells : List ℕ) (o : Open) (i : ℕ) → Seen bs cells o i → i < length bs / 2 → kindOf (pairAt bs i) ≡ Event → Seen bs cells o (i + 1)
+note-on bs cells o i s h k = step-on bs cells o i s h (sym k) refl o refl (event-on o)
 
 pub none-held : held (blank 24) ≡ none-closed
 none-held = fun-ext (λ k. rw (blank-at 24 k))

@@ -25,11 +25,16 @@ pub fn pairs_finding(voice: &[u8]) -> Finding
     let n = voice.len() / 2;
     let mut i = 0;
     while i < n {
-        let kind = bodies::kind_at(voice, i);
-        match single::test_pair(kind, i + 1 == n) {
-            Verdict::Failed(number) => return Finding::At(number, i),
-            Verdict::Passed => {
-                i += 1;
+        let note = bodies::note_at(voice, i);
+        if note & (i + 1 != n) {
+            i += 1;
+        } else {
+            let kind = bodies::kind_at(voice, i);
+            match single::test_pair(kind, i + 1 == n) {
+                Verdict::Failed(number) => return Finding::At(number, i),
+                Verdict::Passed => {
+                    i += 1;
+                }
             }
         }
     }
@@ -50,18 +55,22 @@ pub fn structure_finding(voice: &[u8]) -> Finding
     };
     let mut i = 0;
     while i < n {
-        let kind = bodies::kind_at(voice, i);
-        let known = closed[nesting::number_of(kind)] == 1;
-        match nesting::pass(kind, o, known) {
-            Step::Off(number) => return Finding::At(number, i),
-            Step::On(p) => {
-                o = p;
-                i += 1;
-            }
-            Step::Closes(p, k) => {
-                closed[k] = 1;
-                o = p;
-                i += 1;
+        if bodies::note_at(voice, i) {
+            i += 1;
+        } else {
+            let kind = bodies::kind_at(voice, i);
+            let known = closed[nesting::number_of(kind)] == 1;
+            match nesting::pass(kind, o, known) {
+                Step::Off(number) => return Finding::At(number, i),
+                Step::On(p) => {
+                    o = p;
+                    i += 1;
+                }
+                Step::Closes(p, k) => {
+                    closed[k] = 1;
+                    o = p;
+                    i += 1;
+                }
             }
         }
     }

@@ -1,11 +1,12 @@
 -- `structure::structure_finding` meets its contract.
 use borrow.Author.Needs.{needs}
 use Prim.Native.Nat.{ℕ, _-_, _/_, _<_, _≤_}
-use mathlib.Core.Path.{refl, sym, subst}
+use mathlib.Core.Path.{refl, sym, subst, _∙_}
 use native.Mathlib.Omega.{arith}
 use lib.ListN.{length}
+use Rattle.bodies.proofs.Stored.{note-event}
 use Rattle.structure.specs.Steps.{heds, openersOf}
-use Rattle.structure.proofs.Passes.{Seen, seen-start, none-held, number-few, step-off, step-on, step-closes, step-few, nest-end}
+use Rattle.structure.proofs.Passes.{Seen, seen-start, none-held, number-few, step-off, step-on, step-closes, step-few, note-on, nest-end}
 use Rattle.structure.proofs.structure_finding.Statement.{statement}
 use Rattle.structure.proofs.structure_finding.Tie as tie
 
@@ -23,22 +24,27 @@ array-read-known : tie.Need-array-read-known Inv-loop μ-loop
 array-read-known c = subst (λ (k : ℕ). k < 24) (sym (c .number-of .ensures)) (number-few (c .before .kind-at .result) (c .before .kind-at .ensures .1))
 
 pass-requires : tie.Need-pass-requires Inv-loop μ-loop
-pass-requires c κs = let inv = c .before .before .before .loop .inv in (omega (arith, inv .1 .few .inside, inv .0, c .before .before .before .before .before .pre), inv .1 .few .phrase, c .before .kind-at .ensures .1)
+pass-requires c κs = let inv = c .before .before .before .before .before .loop .inv in (omega (arith, inv .1 .few .inside, inv .0, c .before .before .before .before .before .before .before .pre), inv .1 .few .phrase, c .before .kind-at .ensures .1)
 
 returns : tie.Need-returns Inv-loop μ-loop
-returns c = (step-off _ _ _ _ (c .before .before .before .before .before .before .before .loop .inv .1) (c .before .before .before .before .before .before .loop-test .taken) (c .before .before .before .before .before .kind-at .ensures .0) (c .before .before .before .before .number-of .ensures) _ (c .before .number .given .1) (c .before .before .before .pass .ensures))
-
-loop-again : tie.Need-loop-again Inv-loop μ-loop
-loop-again c = (omega (arith, c .before .before .before .before .before .before .loop-test .taken), (step-on _ _ _ _ (c .before .before .before .before .before .before .before .loop .inv .1) (c .before .before .before .before .before .before .loop-test .taken) (c .before .before .before .before .before .kind-at .ensures .0) (c .before .before .before .before .number-of .ensures) _ (c .before .p .given .1) (c .before .before .before .pass .ensures)))
-
-array-write-closed : tie.Need-array-write-closed Inv-loop μ-loop
-array-write-closed c = (step-few _ _ _ _ (c .before .before .before .before .before .before .before .loop .inv .1) (c .before .before .before .before .before .before .loop-test .taken) (c .before .before .before .before .before .kind-at .ensures .0) (c .before .before .before .before .number-of .ensures) _ _ (c .before .p2 .given .1) (c .before .before .before .pass .ensures))
+returns c = (step-off _ _ _ _ (c .before .before .before .before .before .before .before .before .before .loop .inv .1) (c .before .before .before .before .before .before .before .before .loop-test .taken) (c .before .before .before .before .before .kind-at .ensures .0) (c .before .before .before .before .number-of .ensures) _ (c .before .number .given .1) (c .before .before .before .pass .ensures))
 
 loop-again-2 : tie.Need-loop-again-2 Inv-loop μ-loop
-loop-again-2 c = (omega (arith, c .before .before .before .before .before .before .loop-test .taken), (step-closes _ _ _ _ (c .before .before .before .before .before .before .before .loop .inv .1) (c .before .before .before .before .before .before .loop-test .taken) (c .before .before .before .before .before .kind-at .ensures .0) (c .before .before .before .before .number-of .ensures) _ _ (c .before .p2 .given .1) (c .before .before .before .pass .ensures)))
+loop-again-2 c = (omega (arith, c .before .before .before .before .before .before .before .before .loop-test .taken), (step-on _ _ _ _ (c .before .before .before .before .before .before .before .before .before .loop .inv .1) (c .before .before .before .before .before .before .before .before .loop-test .taken) (c .before .before .before .before .before .kind-at .ensures .0) (c .before .before .before .before .number-of .ensures) _ (c .before .p .given .1) (c .before .before .before .pass .ensures)))
+
+array-write-closed : tie.Need-array-write-closed Inv-loop μ-loop
+array-write-closed c = (step-few _ _ _ _ (c .before .before .before .before .before .before .before .before .before .loop .inv .1) (c .before .before .before .before .before .before .before .before .loop-test .taken) (c .before .before .before .before .before .kind-at .ensures .0) (c .before .before .before .before .number-of .ensures) _ _ (c .before .p2 .given .1) (c .before .before .before .pass .ensures))
+
+loop-again-3 : tie.Need-loop-again-3 Inv-loop μ-loop
+loop-again-3 c = (omega (arith, c .before .before .before .before .before .before .before .before .loop-test .taken), (step-closes _ _ _ _ (c .before .before .before .before .before .before .before .before .before .loop .inv .1) (c .before .before .before .before .before .before .before .before .loop-test .taken) (c .before .before .before .before .before .kind-at .ensures .0) (c .before .before .before .before .number-of .ensures) _ _ (c .before .p2 .given .1) (c .before .before .before .pass .ensures)))
 
 returns-2 : tie.Need-returns-2 Inv-loop μ-loop
 returns-2 c = sym (nest-end _ _ _ _ (c .before .loop .inv .1) (omega (arith, c .loop-test .left)))
+
+loop-again : tie.Need-loop-again Inv-loop μ-loop
+loop-again c =
+    let taken = c .before .before .loop-test .taken in
+    (omega (arith, taken), note-on _ _ _ _ (c .before .before .before .loop .inv .1) taken (note-event _ _ (sym (c .before .note-at .ensures) ∙ c .if1 .taken)))
 
 pub structure-finding-spec : {M : Type 1} → statement M
 structure-finding-spec =
@@ -48,6 +54,10 @@ structure-finding-spec =
     μ-loop
     loop-holds
     (λ c κs. omega (arith, c .loop-test .taken))
+    (λ c. search needs)
+    (λ c. omega (arith, c .before .before .loop-test .taken))
+    loop-again
+    (λ c κs. omega (arith, c .before .before .loop-test .taken))
     (λ c κs. search needs)
     array-read-known
     pass-requires
@@ -55,11 +65,11 @@ structure-finding-spec =
     returns
     (λ c. search needs)
     (λ c. search needs)
-    (λ c. omega (arith, c .before .before .before .before .before .before .loop-test .taken))
-    loop-again
+    (λ c. omega (arith, c .before .before .before .before .before .before .before .before .loop-test .taken))
+    loop-again-2
     (λ c. search needs)
     array-write-closed
     (λ c. search needs)
-    (λ c. omega (arith, c .before .before .before .before .before .before .loop-test .taken))
-    loop-again-2
+    (λ c. omega (arith, c .before .before .before .before .before .before .before .before .loop-test .taken))
+    loop-again-3
     returns-2)
