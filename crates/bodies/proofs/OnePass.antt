@@ -9,7 +9,7 @@ use Rattle.meaning.specs.declared.Meaning.{Meaning}
 use Rattle.refusals.specs.Numbers.{Outcome}
 use Rattle.bodies.specs.Bodies.{Body, done, event, repeat, phrase, call, bodyOf}
 use Rattle.bodies.specs.Playing.{Interpretation, interpret, learn, phrases, phrasesOf, ofVoice}
-use Rattle.bodies.specs.Order.{also, closes, Ordered, none-closed, Sound}
+use Rattle.bodies.specs.Order.{also, closes, Ordered, noneClosed, Sound}
 use Rattle.bodies.specs.OnePass.{reading}
 use Rattle.bodies.proofs.Phrases.{closed-more, closed-kept, flat-closes, flat-phrases, Agree, agree, keep}
 
@@ -37,4 +37,4 @@ module _ {A : Type 0} (m : Interpretation A) where
       (cc (mine, x .0), x .1)
 
   pub one-pass-voice : (v : List (Outcome Meaning)) → Sound v → reading m (λ k. m .nothing) (bodyOf v) .total ≡ ofVoice m v
-  one-pass-voice v s = one-pass none-closed (λ k. m .nothing) (phrasesOf m v) (bodyOf v) (s .ordered) (λ k h. refl) .0
+  one-pass-voice v s = one-pass noneClosed (λ k. m .nothing) (phrasesOf m v) (bodyOf v) (s .ordered) (λ k h. refl) .0

@@ -17,7 +17,7 @@ use Rattle.meaning.specs.declared.Meaning.{Meaning}
 use Rattle.refusals.specs.Numbers.{Outcome}
 use Rattle.bodies.specs.Bodies.{Body, done, event, repeat, phrase, call, bodyOf}
 use Rattle.bodies.specs.Playing.{Interpretation, interpret, learn, phrases, phrasesOf}
-use Rattle.bodies.specs.Order.{also, closes, Flat, Ordered, definitions, Called, none-closed, Sound}
+use Rattle.bodies.specs.Order.{also, closes, Flat, Ordered, definitions, Called, noneClosed, Sound}
 
 pub differ : false ≡ true → ⊥
 differ q = let z : _≡_ {A = ℕ} 0 1 = cc in omega arith
@@ -200,4 +200,4 @@ called-closed k K (call j r) o h =
 -- 'CAL k gives one copy of the body of DEF k': of the one DEF k of the voice, whatever is made of bodies
 pub call-stands : {A : Type 0} (m : Interpretation A) (v : List (Outcome Meaning)) (k : ℕ) → Sound v → Called k (bodyOf v) → TheOne m (phrasesOf m v) k (bodyOf v)
 call-stands m v k s c =
-    the-one m (phrasesOf m v) none-closed (λ j. m .nothing) (bodyOf v) k (s .ordered) (λ j h. refl) refl (called-closed k none-closed (bodyOf v) (s .ordered) c)
+    the-one m (phrasesOf m v) noneClosed (λ j. m .nothing) (bodyOf v) k (s .ordered) (λ j h. refl) refl (called-closed k noneClosed (bodyOf v) (s .ordered) c)

@@ -4,3 +4,4 @@ pub mod Playing
 pub mod Order
 pub mod OnePass
 pub mod Places
+pub mod Example

@@ -6,7 +6,7 @@
 -- Shut          each HED is closed by a TAL, each DEF by an END, and the body itself by a closer
 -- definitions   the bodies of the DEFs with a number, in stored order
 -- Called        a CAL with a number stands in a body
--- none-closed   before a voice no number is closed
+-- noneClosed   before a voice no number is closed
 -- Sound         a voice is one body, in order and shut
 use Prim.Native.Nat.{ℕ}
 use mathlib.Core.Path.{_≡_}
@@ -64,10 +64,10 @@ Called k (repeat n i r) = Called k i ⊎ Called k r
 Called k (phrase j i r) = Called k i ⊎ Called k r
 Called k (call j r) = (j ≡ k) ⊎ Called k r
 
-abbrev pub none-closed : ℕ → Bool
-none-closed k = false
+abbrev pub noneClosed : ℕ → Bool
+noneClosed k = false
 
 pub record Sound (v : List (Outcome Meaning)) : Type 0 where
   pub whole : outer (bodies 0 v) ≡ []
-  pub ordered : Ordered none-closed (bodyOf v)
+  pub ordered : Ordered noneClosed (bodyOf v)
   pub shut : Shut byStop (bodyOf v)

@@ -4,7 +4,6 @@
 use Prim.Native.Nat.{ℕ}
 use mathlib.Core.Path.{_≡_, refl}
 use mathlib.Core.List.{List, [], _∷_}
-use Rattle.refusals.specs.Numbers.{Outcome}
 use Rattle.refusals.specs.Numbers.Outcome.{accepted}
 use Rattle.fields.specs.Numbers.{le16}
 use Rattle.container.specs.Head.{headOf}
@@ -14,7 +13,6 @@ use Rattle.bodies.specs.Voice.{pairs}
 use Rattle.bodies.specs.Bodies.{inner, outer, joined, bodies, bodyOf}
 use Rattle.bodies.specs.Playing.{interpret, phrases, copies, played, eventsOf, walkedOf, depthOf}
 use Rattle.structure.specs.Findings.{firstAt, pairsTests, nestingsTests, pairsFinding, structureFinding}
-use Rattle.mus.specs.declared.Song.{Song}
 use Rattle.mus.specs.Voices.{voiceOutcome}
 use Rattle.mus.specs.Song.{musOutcome}
 

@@ -26,7 +26,7 @@ use Rattle.container.specs.declared.Layout.{Layout}
 use Rattle.container.specs.Head.{headOf, voicesEnd}
 use Rattle.container.specs.Text.{line}
 use Rattle.container.specs.Layout.{layoutOf, containerTests, containerOutcome}
-use Rattle.container.specs.Laws.{none-layout, layout-none, layout-of, lines-part}
+use Rattle.container.specs.Laws.{none-layout, layout-none, layout-of, partOf, lines-part}
 use Rattle.bodies.specs.Voice.{pairs}
 use Rattle.bodies.specs.Playing.{eventsOf, walkedOf}
 use Rattle.structure.specs.declared.Finding.{Finding}
@@ -41,7 +41,7 @@ use Rattle.mus.specs.declared.Song.{Song}
 use Rattle.mus.specs.declared.Reading.{Reading}
 use Rattle.mus.specs.declared.Reading.the-variants.{Accepted, Refused}
 use Rattle.mus.specs.Voices.{orFound, limited, voiceOutcome}
-use Rattle.mus.specs.Song.{next, partOf, voiceIn, songWith, songIn, musOutcome, told}
+use Rattle.mus.specs.Song.{next, voiceIn, songWith, songIn, musOutcome, told}
 use Rattle.mus.specs.Text.{textLine}
 
 two-ways : {A : Type 0} {a : A} {n p : ℕ} → refused n p ≡ accepted a → ⊥

@@ -1,6 +1,5 @@
 -- Document 01, 'MUS container': 'Order: 21, 22, 23, 24, 25, 26. Then voice 1, 2, 3'; and what an accepted file says of itself.
 -- next          what comes after a part that is accepted; a refusal stands
--- partOf        the bytes of a file that a span names
 -- voiceIn       the voice at a span of a file
 -- songWith      what a right container and its three voices say together
 -- songIn        voice 1, 2, 3 of a file whose container is right
@@ -8,12 +7,12 @@
 -- told          what an answer says
 use Prim.Native.Nat.{ℕ}
 use mathlib.Core.List.{List}
-use lib.ListN.{take, drop}
 use Rattle.refusals.specs.Numbers.{Outcome}
 use Rattle.refusals.specs.Numbers.Outcome.{accepted, refused}
 use Rattle.container.specs.declared.Span.{Span}
 use Rattle.container.specs.declared.Layout.{Layout}
 use Rattle.container.specs.Layout.{containerOutcome}
+use Rattle.container.specs.Laws.{partOf}
 use Rattle.mus.specs.declared.Voice.{Voice}
 use Rattle.mus.specs.declared.Song.{Song}
 use Rattle.mus.specs.declared.Reading.{Reading}
@@ -23,9 +22,6 @@ use Rattle.mus.specs.Voices.{voiceOutcome}
 abbrev pub next : {A B : Type 0} → Outcome A → (A → Outcome B) → Outcome B
 next (accepted a) f = f a
 next (refused number place) f = refused number place
-
-abbrev pub partOf : List ℕ → Span → List ℕ
-partOf f s = take (s .len) (drop (s .from) f)
 
 abbrev pub voiceIn : List ℕ → Span → Outcome Voice
 voiceIn f s = voiceOutcome (s .from) (partOf f s)

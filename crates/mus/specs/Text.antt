@@ -9,8 +9,9 @@ use Rattle.refusals.specs.Numbers.{Outcome}
 use Rattle.refusals.specs.Numbers.Outcome.{accepted, refused}
 use Rattle.refusals.specs.Tests.{pick}
 use Rattle.container.specs.declared.Span.{Span}
+use Rattle.container.specs.Laws.{partOf}
 use Rattle.mus.specs.declared.Song.{Song}
-use Rattle.mus.specs.Song.{partOf, musOutcome}
+use Rattle.mus.specs.Song.{musOutcome}
 
 abbrev pub lineSpan : Song → ℕ → Span
 lineSpan s n =

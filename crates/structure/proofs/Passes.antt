@@ -21,7 +21,7 @@ use Rattle.kind.specs.declared.Kind.{Kind}
 use Rattle.kind.specs.declared.Kind.the-variants.{Event, Hed, Tal, Def, End, Cal, Hlt, Bad}
 use Rattle.kind.specs.Kinds.{kindOf, Numbered}
 use Rattle.bodies.specs.Voice.{pairs, pairAt}
-use Rattle.bodies.specs.Order.{also, none-closed}
+use Rattle.bodies.specs.Order.{also, noneClosed}
 use Rattle.bodies.proofs.Stored.{pairs-cons, pairs-end}
 use Rattle.bodies.proofs.Cells.{set-at, blank, blank-at}
 use Rattle.structure.specs.declared.Finding.the-variants.{Clear, At}
@@ -136,7 +136,7 @@ pub nest-end : (bs cells : List ℕ) (o : Open) (i : ℕ) → Seen bs cells o i 
 unfolding firstAt nestingsTests
 nest-end bs cells o i s h = sym (s .finds) ∙ rw (pairs-end bs i h)
 
-pub seen-start : (bs : List ℕ) (cells : List ℕ) (o : Open) → openersOf o ≡ [] → held cells ≡ none-closed → length cells ≡ 24 → Few o 0 → Seen bs cells o 0
+pub seen-start : (bs : List ℕ) (cells : List ℕ) (o : Open) → openersOf o ≡ [] → held cells ≡ noneClosed → length cells ≡ 24 → Few o 0 → Seen bs cells o 0
 unfolding structureFinding
 seen-start bs cells o e h l f = record { finds = rw (e, h); few = f; cells-few = l }
 
@@ -175,5 +175,5 @@ module _ (bs cells : List ℕ) (o : Open) (i : ℕ) (s : Seen bs cells o i) (h :
 pub note-on : (bs cells : List ℕ) (o : Open) (i : ℕ) → Seen bs cells o i → i < length bs / 2 → kindOf (pairAt bs i) ≡ Event → Seen bs cells o (i + 1)
 note-on bs cells o i s h k = step-on bs cells o i s h (sym k) refl o refl (event-on o)
 
-pub none-held : held (blank 24) ≡ none-closed
+pub none-held : held (blank 24) ≡ noneClosed
 none-held = fun-ext (λ k. rw (blank-at 24 k))

@@ -21,7 +21,7 @@ use Rattle.refusals.specs.Numbers.{numberOf, unassignedPair, valueRange, hltMis
 use Rattle.refusals.specs.Tests.{Test, test, pick}
 use Rattle.kind.specs.declared.Kind.{Kind}
 use Rattle.kind.specs.declared.Kind.the-variants.{Event, Hed, Tal, Def, End, Cal, Hlt, Bad}
-use Rattle.bodies.specs.Order.{also, none-closed}
+use Rattle.bodies.specs.Order.{also, noneClosed}
 
 abbrev pub isBad : ℕ → Kind → Bool
 isBad number Event = false
@@ -141,4 +141,4 @@ abbrev pub after : Kind → Nesting → Nesting
 after z o = record { openers = openersAfter z (o .openers); closed = closedAfter z (o .openers) (o .closed) }
 
 abbrev pub start : Nesting
-start = record { openers = []; closed = none-closed }
+start = record { openers = []; closed = noneClosed }

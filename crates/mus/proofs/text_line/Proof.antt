@@ -2,8 +2,9 @@
 use borrow.Author.Needs.{needs}
 use mathlib.Core.Path.{sym, ap, _∙_}
 use Rattle.refusals.specs.Numbers.{Outcome}
+use Rattle.container.specs.Laws.{partOf}
 use Rattle.mus.specs.declared.Song.{Song}
-use Rattle.mus.specs.Song.{partOf, told}
+use Rattle.mus.specs.Song.{told}
 use Rattle.mus.specs.Text.{lineOf, textLine}
 use Rattle.mus.proofs.text_line.Statement.{statement}
 use Rattle.mus.proofs.text_line.Tie as tie
