@@ -69,8 +69,9 @@ fewer =
       nothing = le-refl 0;
       plain = λ e es w h. omega arith;
       repeated = λ t a c b d h g. omega (arith, length-append (copies t a) c, length-copies t a, few t (length a) b h);
-      defined = λ a c b d h g. omega (arith, length-append a c);
-      called = λ a c b d h g. omega (arith, length-append a c);
+      -- in either order, so that the order of events is not held by how long they are
+      defined = λ a c b d h g. omega (arith, length-append a c, length-append c a);
+      called = λ a c b d h g. omega (arith, length-append a c, length-append c a);
     }
 
 pub events-walked : (v : List (Outcome Meaning)) → eventsOf v ≤ walkedOf v
