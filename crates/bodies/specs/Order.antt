@@ -6,7 +6,7 @@
 -- Shut          each HED is closed by a TAL, each DEF by an END, and the body itself by a closer
 -- definitions   the bodies of the DEFs with a number, in stored order
 -- Called        a CAL with a number stands in a body
--- noneClosed   before a voice no number is closed
+-- noneClosed    before a voice no number is closed
 -- Sound         a voice is one body, in order and shut
 use Prim.Native.Nat.{ℕ}
 use mathlib.Core.Path.{_≡_}
