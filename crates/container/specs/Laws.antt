@@ -8,8 +8,8 @@
 -- voices-within                    the voices end within the file
 -- text-right, text-last, text-whole   the text is five lines and a $00, and the file ends with it
 use Prim.Native.Nat.{ℕ, _+_, _-_, _%_, _<_, _≤_}
-use mathlib.Core.Path.{_≡_, refl}
-use mathlib.Core.Bool.{Bool, true, false, _||_}
+use mathlib.Core.Path.{_≡_}
+use mathlib.Core.Bool.{true, false, _||_}
 use mathlib.Core.List.{List, []}
 use native.Mathlib.Omega.{arith}
 use lib.ListN.{length, take, drop, drop-of-length-le}
@@ -17,7 +17,7 @@ use lib.Dec.{ltb, eqb}
 use borrow.Author.Tests.{ltb-false, eqb-false, not-false}
 use Rattle.refusals.specs.Numbers.Outcome.{accepted}
 use Rattle.refusals.specs.Tests.{None, firstOf}
-use Rattle.refusals.specs.Laws.{passed-none, none-passed, guarded-accepted}
+use Rattle.refusals.specs.Laws.{passed-none, none-passed, guarded-accepted, neither}
 use Rattle.container.specs.declared.Span.{Span}
 use Rattle.container.specs.declared.Layout.{Layout}
 use Rattle.container.specs.Head.{headOf, badLength, voicesEnd}
@@ -37,10 +37,6 @@ layout-none f l e = passed-none (containerTests f) (guarded-accepted (firstOf (c
 pub layout-of : (f : List ℕ) (l : Layout) → containerOutcome f ≡ accepted l → layoutOf f ≡ l
 unfolding containerOutcome
 layout-of f l e = guarded-accepted (firstOf (containerTests f)) l (layoutOf f) e .1
-
-neither : (a b : Bool) → a || b ≡ false → (a ≡ false) × (b ≡ false)
-neither false b e = (refl, e)
-neither true b e = let z : _≡_ {A = ℕ} 0 1 = cc in absurd (omega arith)
 
 abbrev pub partOf : List ℕ → Span → List ℕ
 partOf f s = take (s .len) (drop (s .from) f)

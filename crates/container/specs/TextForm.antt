@@ -18,6 +18,7 @@ use lib.Seq.{drop-cons, drop-drop, drop-append-seam}
 use lib.Dec.{ltb, leb, eqb}
 use borrow.Author.Tests.{not-true, ltb-true, ltb-false, eqb-true, lt-ltb}
 use Rattle.refusals.specs.Tests.{pick}
+use Rattle.refusals.specs.Laws.{both}
 use Rattle.container.specs.Text.{closes, lineBytes, lineAt, lineFits, nextLine, lineStart, line, zeroAt, textFits, textEnd}
 use Rattle.container.specs.TextLaws.{take-line}
 
@@ -36,10 +37,6 @@ textForm l1 l2 l3 l4 l5 rest = closedLine l1 (closedLine l2 (closedLine l3 (clos
 
 abbrev pub GoodLines : List ℕ → List ℕ → List ℕ → List ℕ → List ℕ → Type 0
 GoodLines l1 l2 l3 l4 l5 = (goodLine l1 ≡ true) × (goodLine l2 ≡ true) × (goodLine l3 ≡ true) × (goodLine l4 ≡ true) × (goodLine l5 ≡ true)
-
-both : (a b : Bool) → a && b ≡ true → (a ≡ true) × (b ≡ true)
-both true b e = (refl, e)
-both false b e = let z : _≡_ {A = ℕ} 0 1 = cc in absurd (omega arith)
 
 line-plain : (s : List ℕ) → plain (lineBytes s) ≡ true
 unfolding lineBytes

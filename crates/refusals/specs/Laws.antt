@@ -6,10 +6,11 @@
 -- testedAll, tested-first    tests made one by one come to what the list comes to
 -- refused-once               a refusal is known by its number and place
 -- guarded-accepted           what comes after tests is accepted only where they pass
+-- both, neither              what a test of two conditions joined shows of each
 use Prim.Native.Nat.{ℕ}
 use mathlib.Core.Path.{_≡_, refl}
 use native.Mathlib.Omega.{arith}
-use mathlib.Core.Bool.{Bool, true, false}
+use mathlib.Core.Bool.{Bool, true, false, _&&_, _||_}
 use mathlib.Core.List.{List, [], _∷_, _++_}
 use Rattle.refusals.specs.declared.Refusal.{Refusal}
 use Rattle.refusals.specs.declared.Verdict.{Verdict}
@@ -77,3 +78,11 @@ refused-once x y e =
     let number : x .number ≡ y .number = cc in
     let place : x .place ≡ y .place = cc in
     λ i. record { number = number i; place = place i }
+
+pub both : (a b : Bool) → a && b ≡ true → (a ≡ true) × (b ≡ true)
+both true b e = (refl, e)
+both false b e = let z : _≡_ {A = ℕ} 0 1 = cc in absurd (omega arith)
+
+pub neither : (a b : Bool) → a || b ≡ false → (a ≡ false) × (b ≡ false)
+neither true b e = let z : _≡_ {A = ℕ} 0 1 = cc in absurd (omega arith)
+neither false b e = (refl, e)

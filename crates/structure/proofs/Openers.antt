@@ -8,8 +8,9 @@ use mathlib.Core.List.{List, [], _∷_}
 use native.Mathlib.Numerals.{add-one, sub-one}
 use native.Mathlib.Omega.{arith}
 use lib.Dec.{eqb}
-use borrow.Author.Tests.{eq-eqb, ne-eqb, eqb-true, eqb-false}
+use borrow.Author.Tests.{eq-eqb, ne-eqb, eqb-true, eqb-false, not-false}
 use Rattle.refusals.specs.Tests.{pick}
+use Rattle.refusals.specs.Laws.{neither}
 use Rattle.kind.specs.declared.Kind.the-variants.{Event, Hed, Tal, Def, End, Cal, Hlt, Bad}
 use Rattle.structure.specs.declared.nesting.Open.{Open}
 use Rattle.structure.specs.declared.nesting.Step.{Step}
@@ -145,9 +146,7 @@ module _ (o : Open) where
   asked false true e = absurd (let z : _≡_ {A = ℕ} 0 1 = cc in omega arith)
 
   unasked : (t u : Bool) → t || not u ≡ false → (t ≡ false) × (u ≡ true)
-  unasked true u e = absurd (let z : _≡_ {A = ℕ} 0 1 = cc in omega arith)
-  unasked false true e = (refl, refl)
-  unasked false false e = absurd (let z : _≡_ {A = ℕ} 0 1 = cc in omega arith)
+  unasked t u e = let p = neither t (not u) e in (p .0, not-false u (p .1))
 
   pub end-off : eqb (o .phrase) 24 || not (eqb (o .inside) 0) ≡ true → Stepped End o true (Off 30)
   end-off e = rw (last-def, asked (eqb (o .phrase) 24) (eqb (o .inside) 0) e)

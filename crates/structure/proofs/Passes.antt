@@ -12,9 +12,10 @@ use mathlib.Core.List.{List, []}
 use native.Mathlib.Omega.{arith}
 use native.Mathlib.Decide.{decLt}
 use lib.Dec.{eqb}
-use borrow.Author.Tests.{eq-eqb, ne-eqb}
+use borrow.Author.Tests.{eq-eqb, ne-eqb, not-true}
 use lib.ListN.{length, drop, getD, set, length-set}
 use Rattle.refusals.specs.Tests.{firstOf, pick}
+use Rattle.refusals.specs.Laws.{both}
 use Rattle.refusals.specs.declared.Verdict.{Verdict}
 use Rattle.refusals.specs.declared.Verdict.the-variants.{Passed, Failed}
 use Rattle.kind.specs.declared.Kind.{Kind}
@@ -57,9 +58,7 @@ module _ (bs : List ℕ) (i : ℕ) (h : i < length bs / 2) where
   note-passed k l = pair-passed (rw (k, l))
 
 pub asked-both : (s t : Bool) → s && not t ≡ true → (s ≡ true) × (t ≡ false)
-asked-both true false e = (refl, refl)
-asked-both true true e = absurd (let z : _≡_ {A = ℕ} 0 1 = cc in omega arith)
-asked-both false t e = absurd (let z : _≡_ {A = ℕ} 0 1 = cc in omega arith)
+asked-both s t e = let p = both s (not t) e in (p .0, not-true t (p .1))
 
 pub pair-end : (bs : List ℕ) (i : ℕ) → length bs / 2 ≤ i → firstAt i (pairsTests (drop i (pairs bs))) ≡ Clear
 unfolding firstAt pairsTests

@@ -16,10 +16,3 @@ bad-either n v e = go (eqb n 27) (eqb n 28) refl refl e
     go true t p q e = rw (eqb-true n 27 p)
     go false true p q e = rw (eqb-true n 28 q)
     go false false p q e = absurd (let z : _≡_ {A = ℕ} 0 1 = cc in omega arith)
-
-pub bad-neither : (n : ℕ) → eqb n 27 || eqb n 28 ≡ false → (eqb n 27 ≡ false) × (eqb n 28 ≡ false)
-bad-neither n e = go (eqb n 27) (eqb n 28) e
-  where
-    go : (s t : Bool) → s || t ≡ false → (s ≡ false) × (t ≡ false)
-    go true t e = absurd (let z : _≡_ {A = ℕ} 0 1 = cc in omega arith)
-    go false t e = (refl, e)

@@ -2,11 +2,13 @@
 -- sound   so, from the tests of each pair
 use Prim.Native.Nat.{ℕ, _+_}
 use mathlib.Core.Path.{_≡_, refl, sym, _∙_, subst}
-use mathlib.Core.Bool.{Bool, true, false, not, _||_}
+use mathlib.Core.Bool.{Bool, true, false}
 use mathlib.Core.List.{List, [], _∷_}
+use borrow.Author.Tests.{not-false}
 use Rattle.meaning.specs.declared.Meaning.{Meaning}
 use Rattle.refusals.specs.Numbers.{Outcome}
 use Rattle.refusals.specs.Tests.{None}
+use Rattle.refusals.specs.Laws.{neither}
 use Rattle.kind.specs.declared.Kind.{Kind}
 use Rattle.kind.specs.declared.Kind.the-variants.{Event, Hed, Tal, Def, End, Cal, Hlt, Bad}
 use Rattle.kind.specs.Kinds.{kindOf}
@@ -90,14 +92,6 @@ module _ (K : ℕ → Bool) (bs : List Body) where
   unfolding Chain inner outer closes Flat Ordered Shut
   end-chain k os c = (record { flat = λ h. tt; ordered = tt; shut = refl }, c)
 
-neither : (s t : Bool) → s || t ≡ false → (s ≡ false) × (t ≡ false)
-neither true t e = absurd (differ (sym e))
-neither false t e = (refl, e)
-
-not-true : (t : Bool) → not t ≡ false → t ≡ true
-not-true true e = refl
-not-true false e = absurd (differ (sym e))
-
 -- a pair that 30 does not refuse: from what is open behind it to what is open at it
 step-chain : (e : bodies.Event) (z : Kind) (os : List Opener) (K : ℕ → Bool) (bs : List Body) → None (nestingTests z (record { openers = os; closed = K }))
     → Chain (after z (record { openers = os; closed = K }) .closed) (openersAfter z os) bs → Chain K os (joined e z bs)
@@ -111,7 +105,7 @@ step-chain e (Def k) os K bs t c = let both = neither (anyDef os) (K k) (t .0) i
 step-chain e End [] K bs t c = absurd (differ (sym (t .0)))
 step-chain e End (byHed ∷ os) K bs t c = absurd (differ (sym (t .0)))
 step-chain e End (byDef k ∷ os) K bs t c = end-chain K bs k os c
-step-chain e (Cal k) os K bs t c = call-chain K bs k (not-true (K k) (t .0)) os c
+step-chain e (Cal k) os K bs t c = call-chain K bs k (not-false (K k) (t .0)) os c
 step-chain e Hlt os K bs t c = event-chain K bs e os c
 step-chain e (Bad n) os K bs t c = event-chain K bs e os c
 

@@ -1,6 +1,8 @@
 -- `structure::single::test_pair` meets its contract.
 use borrow.Author.Needs.{needs}
-use Rattle.structure.proofs.Singles.{bad-either, bad-neither}
+use lib.Dec.{eqb}
+use Rattle.refusals.specs.Laws.{neither}
+use Rattle.structure.proofs.Singles.{bad-either}
 use Rattle.structure.proofs.single.test_pair.Statement.{statement}
 use Rattle.structure.proofs.single.test_pair.Tie as tie
 
@@ -9,7 +11,8 @@ returns-8 c = rw (c .before .before .kind .given .1) (bad-either _ _ (c .if1 .ta
 
 returns-9 : tie.Need-returns-9
 returns-9 c =
-    let none = bad-neither (c .before .before .before .kind .given .0 .0) (c .before .if1 .left) in
+    let number = c .before .before .before .kind .given .0 .0 in
+    let none = neither (eqb number 27) (eqb number 28) (c .before .if1 .left) in
     rw (c .before .before .before .kind .given .1, none .0, none .1, c .unless-last8 .ensures)
 
 pub test-pair-spec : {M : Type 1} → statement M
