@@ -4,3 +4,4 @@ pub mod Phrases
 pub mod Related
 pub mod OnePass
 pub mod Cells
+pub mod Meant

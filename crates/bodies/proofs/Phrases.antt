@@ -45,7 +45,7 @@ flat-closes K (repeat n i r) f = rw (flat-closes K i (f .0)) (flat-closes K r (f
 flat-closes K (phrase j i r) f = absurd f
 flat-closes K (call j r) f = flat-closes K r f
 
-flat-none : (k : ℕ) (b : Body) → Flat b → definitions k b ≡ []
+pub flat-none : (k : ℕ) (b : Body) → Flat b → definitions k b ≡ []
 unfolding definitions Flat
 flat-none k (done c) f = refl
 flat-none k (event e r) f = flat-none k r f
@@ -137,7 +137,7 @@ module _ {A : Type 0} (m : Interpretation A) where
     pub only : definitions k b ≡ body ∷ []
     pub means : σ k ≡ interpret m σ body
 
-  here : (σ : ℕ → A) (K : ℕ → Bool) (ρ : ℕ → A) (j : ℕ) (i r : Body) → Ordered K (phrase j i r) → Agree (closes K (phrase j i r)) (phrases m ρ (phrase j i r)) σ
+  pub here : (σ : ℕ → A) (K : ℕ → Bool) (ρ : ℕ → A) (j : ℕ) (i r : Body) → Ordered K (phrase j i r) → Agree (closes K (phrase j i r)) (phrases m ρ (phrase j i r)) σ
       → σ j ≡ interpret m σ i
   unfolding phrases Ordered closes
   here σ K ρ j i r o a =

@@ -59,11 +59,11 @@ length-copies zero es = sym (zero-mul (length es))
 length-copies (suc n) es = length-append es (copies n es) ∙ rw (length-copies n es) (omega (arith, suc-mul n (length es)))
 
 -- events and pairs walked: of every body no more of the first
-few : (t x w : ℕ) → x ≤ w → t * x ≤ t * (w + 1)
+pub few : (t x w : ℕ) → x ≤ w → t * x ≤ t * (w + 1)
 few zero x w h = rw (zero-mul x, zero-mul (w + 1)) (le-refl 0)
 few (suc t) x w h = omega (arith, suc-mul t x, suc-mul t (w + 1), few t x w h)
 
-fewer : Relation playing walking (λ es w. length es ≤ w)
+pub fewer : Relation playing walking (λ es w. length es ≤ w)
 fewer =
     record {
       nothing = le-refl 0;

@@ -4,3 +4,4 @@ pub mod Numbering
 pub mod Signs
 pub mod Others
 pub mod Pair
+pub mod RowLaws

@@ -5,7 +5,6 @@
 use Prim.Native.Nat.{ℕ, _+_, _*_, _/_, _%_, _<_}
 use mathlib.Core.Path.{_≡_, refl, sym, _∙_, subst}
 use mathlib.Core.Bool.{Bool, true, false, _&&_, _||_}
-use mathlib.Core.List.{List, [], _∷_}
 use mathlib.Core.Logic.{_⊎_, inl, inr}
 use native.Mathlib.Omega.{arith}
 use lib.Dec.{T, eqb, leb, ltb, eqb→eq}
@@ -20,10 +19,11 @@ use Rattle.refusals.specs.Numbers.Outcome.{accepted}
 use Rattle.refusals.specs.Tests.{pick}
 use Rattle.note.specs.Reading.{noteOf}
 use Rattle.command.specs.Patterns as Pattern
-use Rattle.command.specs.Patterns.{byte, fits, number}
+use Rattle.command.specs.Patterns.{byte, number}
 use Rattle.command.specs.Codes.{secondOutcome}
 use Rattle.command.specs.Signs.{outOfRange, signedByte, scaOutcome, tpsValue, tpsOutcome, rtpValue, rtpOutcome, jifOutcome}
-use Rattle.command.specs.Others.{Row, pulse, single, joined, found, unassigned, upTo127, joinedOutcome, otherOutcome}
+use Rattle.command.specs.Others.{pulse, single, joined, found, unassigned, upTo127, joinedOutcome, otherOutcome}
+use Rattle.command.specs.RowLaws.{picked, Each, found-holds}
 use Rattle.command.specs.Pair.{commandOutcome}
 use Rattle.pair.specs.Pairs.{meaningOf}
 use Rattle.kind.specs.declared.Kind.{Kind}
@@ -94,55 +94,41 @@ bounded (Bad n) = eqb n 27 || eqb n 28
 abbrev Bounded : Outcome Meaning → Type 0
 Bounded x = T (bounded (kindOf x))
 
--- what holds of the meaning by each row, whichever row fits, holds of the meaning that is found
-abbrev Each : List Row → ℕ → ℕ → Type 0
-Each [] a b = Unit
-Each (r ∷ rs) a b = Bounded (r .means (number (r .pattern) a * 256 + b)) × Each rs a b
-
-picked : (t : Bool) (x y : Outcome Meaning) → Bounded x → Bounded y → Bounded (pick t x y)
-picked true x y p q = p
-picked false x y p q = q
-
-found-bounded : (rs : List Row) (a b : ℕ) (x : Outcome Meaning) → Each rs a b → Bounded x → Bounded (found rs a b x)
-found-bounded [] a b x e h = h
-found-bounded (r ∷ rs) a b x e h =
-    picked (fits (r .pattern) a) (r .means (number (r .pattern) a * 256 + b)) (found rs a b x) (e .0) (found-bounded rs a b x (e .1) h)
-
 up-to-127 : (v : ℕ) (m : Meaning) → Bounded (accepted m) → Bounded (upTo127 v m)
-up-to-127 v m h = picked (leb v 127) (accepted m) outOfRange h tt
+up-to-127 v m h = picked Bounded (leb v 127) (accepted m) outOfRange (λ t. h) tt
 
 sca : (v : ℕ) → Bounded (scaOutcome v)
-sca v = picked (leZ (negsuc 6) (signedByte v) && leZ (signedByte v) (pos 7)) (accepted (Sca (signedByte v))) outOfRange tt tt
+sca v = picked Bounded (leZ (negsuc 6) (signedByte v) && leZ (signedByte v) (pos 7)) (accepted (Sca (signedByte v))) outOfRange (λ t. tt) tt
 
 tps : (v : ℕ) → Bounded (tpsOutcome v)
-tps v = picked (ltb 11 (v / 16)) outOfRange (accepted (Tps (tpsValue v))) tt tt
+tps v = picked Bounded (ltb 11 (v / 16)) outOfRange (accepted (Tps (tpsValue v))) (λ t. tt) tt
 
 rtp : (v : ℕ) → Bounded (rtpOutcome v)
 rtp v =
-    picked (leb (v / 8) 22 && leZ (negsuc 46) (rtpValue v) && leZ (rtpValue v) (pos 47)) (accepted (Rtp (rtpValue v))) outOfRange tt tt
+    picked Bounded (leb (v / 8) 22 && leZ (negsuc 46) (rtpValue v) && leZ (rtpValue v) (pos 47)) (accepted (Rtp (rtpValue v))) outOfRange (λ t. tt) tt
 
 jif : (v : ℕ) → Bounded (jifOutcome v)
 jif v =
-    picked (leb v 757) (accepted (Jif (subℕ v 0))) (pick (leb v 823) outOfRange (accepted (Jif (subℕ v 1024)))) tt
-    (picked (leb v 823) outOfRange (accepted (Jif (subℕ v 1024))) tt tt)
+    picked Bounded (leb v 757) (accepted (Jif (subℕ v 0))) (pick (leb v 823) outOfRange (accepted (Jif (subℕ v 1024)))) (λ t. tt)
+    (picked Bounded (leb v 823) outOfRange (accepted (Jif (subℕ v 1024))) (λ t. tt) tt)
 
-single-bounded : (a b : ℕ) → b < 256 → Each single a b
+single-bounded : (a b : ℕ) → b < 256 → Each Bounded single a b
 single-bounded a b h =
     let v = 0 * 256 + b in
     let hed : T (ltb v 256) = rw (lt-ltb v 256 (omega arith)) tt in
-    (tt, (tt, (tt, (hed, (tt, (tt, (tt, (sca v, (up-to-127 v (Vdp v) tt, (tt, (tt, (tps v, (tt, (up-to-127 v (Pvd v) tt, (up-to-127 v (Pvr v) tt, (tt, (tt, (tt, (rtp v, (tt, tt))))))))))))))))))))
+    (λ t. tt, (λ t. tt, (λ t. tt, (λ t. hed, (λ t. tt, (λ t. tt, (λ t. tt, (λ t. sca v, (λ t. up-to-127 v (Vdp v) tt, (λ t. tt, (λ t. tt, (λ t. tps v, (λ t. tt, (λ t. up-to-127 v (Pvd v) tt, (λ t. up-to-127 v (Pvr v) tt, (λ t. tt, (λ t. tt, (λ t. tt, (λ t. rtp v, (λ t. tt, tt))))))))))))))))))))
 
-joined-bounded : (a b : ℕ) → Each joined a b
-joined-bounded a b = (tt, (jif (number (byte Pattern.n Pattern.n Pattern.I Pattern.I Pattern.I Pattern.I Pattern.I Pattern.O) a * 256 + b), (tt, (tt, (tt, tt)))))
+joined-bounded : (a b : ℕ) → Each Bounded joined a b
+joined-bounded a b = (λ t. tt, (λ t. jif (number (byte Pattern.n Pattern.n Pattern.I Pattern.I Pattern.I Pattern.I Pattern.I Pattern.O) a * 256 + b), (λ t. tt, (λ t. tt, (λ t. tt, tt)))))
 
 pair-bounded : (a b : ℕ) → b < 256 → Bounded (meaningOf a b)
 pair-bounded a b h =
-    let third = found-bounded joined a b unassigned (joined-bounded a b) tt in
-    let second = found-bounded single a b (joinedOutcome a b) (single-bounded a b h) third in
-    let other = found-bounded pulse a b (found single a b (joinedOutcome a b)) (tt, tt) second in
+    let third = found-holds Bounded joined a b unassigned (joined-bounded a b) tt in
+    let second = found-holds Bounded single a b (joinedOutcome a b) (single-bounded a b h) third in
+    let other = found-holds Bounded pulse a b (found single a b (joinedOutcome a b)) (λ t. tt, tt) second in
     let coded = every-at (λ k. bounded (kindOf (secondOutcome k))) 256 tt b h in
-    picked (eqb (a % 4) 0) (accepted (Note (noteOf a b))) (commandOutcome a b) tt
-    (picked (eqb a 1) (secondOutcome b) (otherOutcome a b) coded other)
+    picked Bounded (eqb (a % 4) 0) (accepted (Note (noteOf a b))) (commandOutcome a b) (λ t. tt)
+    (picked Bounded (eqb a 1) (secondOutcome b) (otherOutcome a b) (λ t. coded) other)
 
 bounded-numbered : (k : Kind) → T (bounded k) → Numbered k
 bounded-numbered Event t = tt

@@ -1,3 +1,2 @@
 pub mod Usual
 pub mod Statements
-pub mod Starred

@@ -9,7 +9,7 @@ pub data Reason : Type 0 where
   tooShort magic version dataOffset rsidReserved songs reservedBits musPayload noPayload pastMemory rsidLoad rsidInit freePages : Reason
   musShort musPastMemory voiceLength voicesPastFile textLines bytesAfterText : Reason
   unassignedPair valueRange hltMisplaced structure hedZero tooDeep tooLong : Reason
-  memorySize noPair noSuchSong : Reason
+  memorySize voiceNumber listLengths noPair noSuchSong : Reason
 
 abbrev pub numberOf : Reason → ℕ
 numberOf tooShort = 1
@@ -39,6 +39,8 @@ numberOf hedZero = 31
 numberOf tooDeep = 32
 numberOf tooLong = 33
 numberOf memorySize = 40
+numberOf voiceNumber = 41
+numberOf listLengths = 42
 numberOf noPair = 43
 numberOf noSuchSong = 44
 

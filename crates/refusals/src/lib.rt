@@ -62,6 +62,10 @@ pub const TOO_LONG: u32 = 33;
 // What a caller hands in
 pub const MEMORY_SIZE: u32 = 40;
 
+pub const VOICE_NUMBER: u32 = 41;
+
+pub const LIST_LENGTHS: u32 = 42;
+
 pub const NO_PAIR: u32 = 43;
 
 pub const NO_SUCH_SONG: u32 = 44;

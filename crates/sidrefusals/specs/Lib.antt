@@ -1,4 +1,3 @@
 pub mod HeaderTests
 pub mod Pages
 pub mod PayloadTests
-pub mod Starred

@@ -1,0 +1,175 @@
+-- Laws that show the lengths and times to be those of document 01, 'Playing a voice'.
+-- each-half         each value from a half note on is half of the one before
+-- dotted-exact, triplet-exact, double-dotted-exact   the shapes drop no fraction, but of a double dotted 64th
+-- numerator, denominator   the fraction of a shape
+-- partsOf, wholeOf  what part a value is, and of which length
+-- never-dotted      no pair means a dotted or double dotted 64th
+-- exact             so no length of a note that a pair means drops a fraction
+-- jiffies-rise      jiffies never fall
+-- same-time         events of equal exact time have one jiffy, also of different voices
+-- eightNotes, eight-64ths   fractions are dropped of the sum, and not note by note
+use Prim.Native.Nat.{ℕ, zero, suc, _*_, _/_, _≤_, _<_}
+use mathlib.Core.Path.{_≡_, refl, ap}
+use mathlib.Core.Bool.{Bool, true, false, not, _||_}
+use mathlib.Core.List.{List, [], _∷_, _++_, map}
+use mathlib.Core.Logic.{_⊎_, inl, inr, ⊎-elim}
+use native.Mathlib.Omega.{arith}
+use native.Mathlib.Nat.{not-suc-le-zero, le-of-suc-le-suc}
+use lib.Dec.{T, eqb}
+use lib.ListN.{take, replicate}
+use Rattle.meaning.specs.declared.Duration.{Duration}
+use Rattle.meaning.specs.declared.Duration.the-variants.{Whole, Half, Quarter, Eighth, Sixteenth, ThirtySecond, SixtyFourth, UtilityDuration, UtilityVoice, AbsolutePitch}
+use Rattle.meaning.specs.declared.Shape.{Shape}
+use Rattle.meaning.specs.declared.Shape.the-variants.{Plain, Dotted, DoubleDotted, Triplet}
+use Rattle.meaning.specs.declared.Meaning.{Meaning}
+use Rattle.meaning.specs.Every.{every-at}
+use Rattle.refusals.specs.Numbers.{Outcome}
+use Rattle.note.specs.Reading as Reading
+use Rattle.note.specs.Reading.{noteOf}
+use Rattle.pair.specs.Pairs.{meaningOf}
+use Rattle.clock.specs.declared.Values.{Values}
+use Rattle.clock.specs.Lengths.{atStart, plainLength, shaped, noteLength, lengthOf, valuesAfter}
+use Rattle.clock.specs.Times.{lengths, sum, timeOf, jiffyOf}
+
+-- 'with tempo t a whole note is 384t, each next value half of that'
+pub each-half : (q : Values)
+    → (2 * plainLength q Half ≡ plainLength q Whole)
+    × (2 * plainLength q Quarter ≡ plainLength q Half)
+    × (2 * plainLength q Eighth ≡ plainLength q Quarter)
+    × (2 * plainLength q Sixteenth ≡ plainLength q Eighth)
+    × (2 * plainLength q ThirtySecond ≡ plainLength q Sixteenth)
+    × (2 * plainLength q SixtyFourth ≡ plainLength q ThirtySecond)
+each-half q = (omega arith, omega arith, omega arith, omega arith, omega arith, omega arith)
+
+twelves : (q : Values) (d : Duration) → ((k : ℕ) × (plainLength q d ≡ 12 * k)) ⊎ (d ≡ SixtyFourth)
+twelves q Whole = inl (32 * q .tempo, omega arith)
+twelves q Half = inl (16 * q .tempo, omega arith)
+twelves q Quarter = inl (8 * q .tempo, omega arith)
+twelves q Eighth = inl (4 * q .tempo, omega arith)
+twelves q Sixteenth = inl (2 * q .tempo, omega arith)
+twelves q ThirtySecond = inl (q .tempo, omega arith)
+twelves q SixtyFourth = inr refl
+twelves q UtilityDuration = inl (32 * q .utl, omega arith)
+twelves q UtilityVoice = inl (32 * q .utv, omega arith)
+twelves q AbsolutePitch = inl (0, refl)
+
+sixes : (q : Values) (d : Duration) → (k : ℕ) × (plainLength q d ≡ 6 * k)
+sixes q d = ⊎-elim (λ k. (2 * k .0, omega (arith, k .1))) (λ e. (q .tempo, rw e (omega arith))) (twelves q d)
+
+-- 'dotted 3/2'
+pub dotted-exact : (q : Values) (d : Duration) → 2 * shaped Dotted (plainLength q d) ≡ 3 * plainLength q d
+dotted-exact q d = rw (sixes q d .1) (omega arith)
+
+-- 'triplet 2/3'
+pub triplet-exact : (q : Values) (d : Duration) → 3 * shaped Triplet (plainLength q d) ≡ 2 * plainLength q d
+triplet-exact q d = rw (sixes q d .1) (omega arith)
+
+-- 'double dotted 7/4'
+pub double-dotted-exact : (q : Values) (d : Duration) → (d ≡ SixtyFourth → ⊥) → 4 * shaped DoubleDotted (plainLength q d) ≡ 7 * plainLength q d
+double-dotted-exact q d n = ⊎-elim (λ k. rw (k .1) (omega arith)) (λ e. absurd (n e)) (twelves q d)
+
+abbrev pub numerator : Shape → ℕ
+numerator Plain = 1
+numerator Dotted = 3
+numerator DoubleDotted = 7
+numerator Triplet = 2
+
+abbrev pub denominator : Shape → ℕ
+denominator Plain = 1
+denominator Dotted = 2
+denominator DoubleDotted = 4
+denominator Triplet = 3
+
+abbrev pub partsOf : Duration → ℕ
+partsOf Whole = 1
+partsOf Half = 2
+partsOf Quarter = 4
+partsOf Eighth = 8
+partsOf Sixteenth = 16
+partsOf ThirtySecond = 32
+partsOf SixtyFourth = 64
+partsOf UtilityDuration = 1
+partsOf UtilityVoice = 1
+partsOf AbsolutePitch = 1
+
+abbrev pub wholeOf : Values → Duration → ℕ
+wholeOf q Whole = 384 * q .tempo
+wholeOf q Half = 384 * q .tempo
+wholeOf q Quarter = 384 * q .tempo
+wholeOf q Eighth = 384 * q .tempo
+wholeOf q Sixteenth = 384 * q .tempo
+wholeOf q ThirtySecond = 384 * q .tempo
+wholeOf q SixtyFourth = 384 * q .tempo
+wholeOf q UtilityDuration = 384 * q .utl
+wholeOf q UtilityVoice = 384 * q .utv
+wholeOf q AbsolutePitch = 0
+
+parts-exact : (q : Values) (d : Duration) → partsOf d * plainLength q d ≡ wholeOf q d
+parts-exact q Whole = omega arith
+parts-exact q Half = omega arith
+parts-exact q Quarter = omega arith
+parts-exact q Eighth = omega arith
+parts-exact q Sixteenth = omega arith
+parts-exact q ThirtySecond = omega arith
+parts-exact q SixtyFourth = omega arith
+parts-exact q UtilityDuration = omega arith
+parts-exact q UtilityVoice = omega arith
+parts-exact q AbsolutePitch = omega arith
+
+abbrev undotted : Shape → Bool
+undotted Plain = true
+undotted Dotted = false
+undotted DoubleDotted = false
+undotted Triplet = true
+
+abbrev readShape : ℕ → Bool
+readShape a = not (eqb (partsOf (Reading.lengthOf a .duration)) 64) || undotted (Reading.lengthOf a .shape)
+
+-- 'Code 0 otherwise is a 64th, triplet when bit 7 is set, and never dotted'
+pub never-dotted : (a : ℕ) → a < 256 → Reading.lengthOf a .duration ≡ SixtyFourth → (Reading.lengthOf a .shape ≡ Plain) ⊎ (Reading.lengthOf a .shape ≡ Triplet)
+never-dotted a h e = go (Reading.lengthOf a .shape) (rw e at (every-at readShape 256 tt a h))
+  where
+    go : (s : Shape) → T (undotted s) → (s ≡ Plain) ⊎ (s ≡ Triplet)
+    go Plain t = inl refl
+    go Dotted t = absurd t
+    go DoubleDotted t = absurd t
+    go Triplet t = inr refl
+
+-- 'Time is in 384ths of a jiffy': whole ones, since each length is the fraction that the paper names of the length that it names
+pub exact : (q : Values) (a b : ℕ) → a < 256
+    → (denominator (noteOf a b .shape) * noteLength q (noteOf a b) ≡ numerator (noteOf a b .shape) * plainLength q (noteOf a b .duration))
+    × (partsOf (noteOf a b .duration) * plainLength q (noteOf a b .duration) ≡ wholeOf q (noteOf a b .duration))
+exact q a b h =
+    let d = noteOf a b .duration in
+    (go d (noteOf a b .shape) (never-dotted a h), parts-exact q d)
+  where
+    go : (d : Duration) (s : Shape) → (d ≡ SixtyFourth → (s ≡ Plain) ⊎ (s ≡ Triplet)) → denominator s * shaped s (plainLength q d) ≡ numerator s * plainLength q d
+    go d Plain k = refl
+    go d Dotted k = dotted-exact q d
+    go d DoubleDotted k = double-dotted-exact q d (λ e. let z : _≡_ {A = ℕ} 0 1 = ⊎-elim (λ p. cc) (λ p. cc) (k e) in omega arith)
+    go d Triplet k = triplet-exact q d
+
+sums-rise : (xs : List ℕ) (i j : ℕ) → i ≤ j → sum (take i xs) ≤ sum (take j xs)
+unfolding sum
+sums-rise xs zero j h = omega arith
+sums-rise xs (suc i) zero h = absurd (not-suc-le-zero h)
+sums-rise [] (suc i) (suc j) h = omega arith
+sums-rise (x ∷ xs) (suc i) (suc j) h = omega (arith, sums-rise xs i j (le-of-suc-le-suc h))
+
+-- 'An event's exact time is the sum of the lengths of all events before it there'
+pub jiffies-rise : (ms : List (Outcome Meaning)) (i j : ℕ) → i ≤ j → jiffyOf ms i ≤ jiffyOf ms j
+unfolding jiffyOf timeOf
+jiffies-rise ms i j h = omega (arith, sums-rise (lengths atStart ms) i j h)
+
+-- 'Its jiffy is that sum in 384ths divided by 384, rounded down'
+pub same-time : (ms ns : List (Outcome Meaning)) (i j : ℕ) → timeOf ms i ≡ timeOf ns j → jiffyOf ms i ≡ jiffyOf ns j
+unfolding jiffyOf
+same-time ms ns i j e = ap (λ (t : ℕ). t / 384) e
+
+abbrev pub eightNotes : List (Outcome Meaning)
+eightNotes = replicate 8 (meaningOf 0x20 0x00) ++ (meaningOf 0x01 0x4F ∷ [])
+
+-- 'Dropping fractions note by note (eight 64ths at t = 120 take 15 jiffies, not 8)'
+pub eight-64ths : (jiffyOf eightNotes 8 ≡ 15) × (sum (map (λ (x : ℕ). x / 384) (take 8 (lengths atStart eightNotes))) ≡ 8)
+unfolding jiffyOf timeOf sum lengths lengthOf valuesAfter
+eight-64ths = (refl, refl)

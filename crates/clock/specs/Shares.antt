@@ -1,0 +1,66 @@
+-- Document 01, 'Playing a voice', as the code multiplies it: 'each next value half of that; dotted 3/2, double dotted 7/4, triplet 2/3'. A plain 32nd of tempo
+-- 1 has 12 384ths, so that every value from a whole note to a 32nd is a product of whole numbers in each shape.
+-- thirtySeconds   how many 32nds a value has, by the three-bit code
+-- twelfthsOf      what a 32nd of tempo 1 has, by bits 7 and 5
+-- shares          how many 384ths of tempo 1, by the first byte
+-- shares-low      how great they get
+-- shares-are      the product with the tempo is the length
+use Prim.Native.Nat.{ℕ, _*_, _/_, _%_, _≤_, _<_}
+use mathlib.Core.Path.{_≡_}
+use mathlib.Core.Bool.{Bool, true, false}
+use native.Mathlib.Omega.{arith}
+use native.Mathlib.Nat.{mul-comm, mul-assoc}
+use lib.Dec.{eqb, leb, leb→le}
+use Rattle.meaning.specs.declared.Duration.the-variants.{Whole, Half, Quarter, Eighth, Sixteenth, ThirtySecond}
+use Rattle.meaning.specs.declared.Shape.the-variants.{Plain, Dotted, DoubleDotted, Triplet}
+use Rattle.meaning.specs.Every.{every-at}
+use Rattle.refusals.specs.Tests.{pick}
+use Rattle.note.specs.Reading.{shapeOf, valueOf}
+use Rattle.clock.specs.declared.Values.{Values}
+use Rattle.clock.specs.Lengths.{plainLength, shaped}
+
+abbrev pub thirtySeconds : ℕ → ℕ
+thirtySeconds code =
+    pick (eqb code 2) 32
+    (pick (eqb code 3) 16
+    (pick (eqb code 4) 8
+    (pick (eqb code 5) 4
+    (pick (eqb code 6) 2 1))))
+
+abbrev pub twelfthsOf : ℕ → ℕ → ℕ
+twelfthsOf bit7 bit5 = pick (eqb bit7 0) (pick (eqb bit5 0) 12 18) (pick (eqb bit5 0) 8 21)
+
+abbrev pub shares : ℕ → ℕ
+shares a = thirtySeconds (a / 4 % 8) * twelfthsOf (a / 128) (a / 32 % 2)
+
+pub shares-low : (a : ℕ) → a < 256 → shares a ≤ 672
+shares-low a h = leb→le (shares a) 672 (every-at (λ k. leb (shares k) 672) 256 tt a h)
+
+plain-share : (q : Values) (code : ℕ) → plainLength q (valueOf code) ≡ 12 * (thirtySeconds code * q .tempo)
+plain-share q code = go (eqb code 2) (eqb code 3) (eqb code 4) (eqb code 5) (eqb code 6)
+  where
+    go : (a b c d e : Bool)
+        → plainLength q (pick a Whole (pick b Half (pick c Quarter (pick d Eighth (pick e Sixteenth ThirtySecond)))))
+        ≡ 12 * (pick a 32 (pick b 16 (pick c 8 (pick d 4 (pick e 2 1)))) * q .tempo)
+    go true b c d e = omega arith
+    go false true c d e = omega arith
+    go false false true d e = omega arith
+    go false false false true e = omega arith
+    go false false false false true = omega arith
+    go false false false false false = omega arith
+
+shaped-share : (bit7 bit5 x : ℕ) → shaped (shapeOf bit7 bit5) (12 * x) ≡ twelfthsOf bit7 bit5 * x
+shaped-share bit7 bit5 x = go (eqb bit7 0) (eqb bit5 0)
+  where
+    go : (s t : Bool)
+        → shaped (pick s (pick t Plain Dotted) (pick t Triplet DoubleDotted)) (12 * x) ≡ pick s (pick t 12 18) (pick t 8 21) * x
+    go true true = omega arith
+    go true false = omega arith
+    go false true = omega arith
+    go false false = omega arith
+
+pub shares-are : (q : Values) (a : ℕ) → shares a * q .tempo ≡ shaped (shapeOf (a / 128) (a / 32 % 2)) (plainLength q (valueOf (a / 4 % 8)))
+shares-are q a =
+    let m = thirtySeconds (a / 4 % 8) in
+    let n = twelfthsOf (a / 128) (a / 32 % 2) in
+    rw (plain-share q (a / 4 % 8), shaped-share (a / 128) (a / 32 % 2) (m * q .tempo), mul-comm m n) (mul-assoc n m (q .tempo))

@@ -1,0 +1,232 @@
+-- Laws of a listing: when it is refused, what each cell holds after it, and how one listing goes with another.
+-- told-once                     no two answers are told alike
+-- voice-first, lengths-next, file-last   what a call comes to: 41 by the voice, then 42 by the lists, then what the file comes to
+-- refused-unchanged             a refusal leaves both lists as they were
+-- Answered, accepted-window     any other answer is that of the voice asked for, of an accepted file
+-- countIn                       how many of some cells a voice fills
+-- numbersOf                     the pair numbers of events
+-- cell-offset, cell-jiffy       each cell below the count holds the offset, the jiffy, of its event
+-- cell-beyond                   every other cell keeps its old content
+-- length-kept                   no list changes its length
+-- past-the-end                  past the end nothing is listed
+-- two-windows                   a listing in two parts is the listing in one
+-- jiffies-never-fall            the jiffies listed never fall
+-- meet-again                    events of equal exact time share a jiffy, whichever voices they are of
+use Prim.Native.Nat.{ℕ, zero, suc, _+_, _-_, _*_, _≤_, _<_}
+use mathlib.Core.Path.{_≡_, refl, sym, ap, _∙_}
+use mathlib.Core.Bool.{true, false, _||_}
+use mathlib.Core.List.{List, [], _∷_, _++_, map, append-assoc, append-nil}
+use mathlib.Core.Logic.{_⊎_, inl, inr}
+use native.Mathlib.Omega.{arith}
+use native.Mathlib.Nat.{not-suc-le-zero, le-of-suc-le-suc}
+use native.Mathlib.Decide.{decLe}
+use lib.Dec.{eqb, ltb}
+use lib.ListN.{length, take, drop, getD, length-append, length-take, length-drop, length-map, take-append-drop, drop-of-length-le, List·getD-append}
+use lib.Seq.{getD-append-add, getD-take, getD-drop, take-add, drop-drop, drop-append-le}
+use borrow.Author.Tests.{eq-eqb, ne-eqb, eqb-true, not-false}
+use Rattle.refusals.specs.Numbers.{Outcome}
+use Rattle.refusals.specs.Numbers.Outcome.{accepted, refused}
+use Rattle.refusals.specs.Tests.{firstOf, guarded}
+use Rattle.refusals.specs.Laws.{passed-none, refused-once}
+use Rattle.refusals.specs.declared.Verdict.{Verdict}
+use Rattle.refusals.specs.declared.Verdict.the-variants.{Passed, Failed}
+use Rattle.clock.specs.Times.{timeOf, jiffyOf}
+use Rattle.clock.specs.Running.{length-jiffies, jiffies-at}
+use Rattle.clock.specs.Laws.{jiffies-rise, same-time}
+use Rattle.bodies.specs.Bodies.{Event}
+use Rattle.mus.specs.declared.Voice.{Voice}
+use Rattle.mus.specs.declared.Song.{Song}
+use Rattle.mus.specs.Song.{musOutcome}
+use Rattle.cells.specs.Window.{filled}
+use Rattle.walk.specs.Times.{offsetsOf, meanings, jiffiesOf}
+use Rattle.events.specs.declared.Listed.{Listed}
+use Rattle.events.specs.declared.Listed.the-variants.{Count, Refused}
+use Rattle.events.specs.Listing.{callerTests, voiceOf, playedIn, countOf, windowIn, filledBy, listing, told}
+
+two-ways : {A : Type 0} {a : A} {n p : ℕ} → refused n p ≡ accepted a → ⊥
+two-ways e = let z : _≡_ {A = ℕ} 0 1 = cc in omega arith
+
+-- 'An answer may be an enum. In that case, a definition gives this paper's number and values for each of the enum's cases'
+pub told-once : (a b : Listed) → told a ≡ told b → a ≡ b
+told-once (Count m) (Count n) e = let same : m ≡ n = cc in rw same
+told-once (Count m) (Refused y) e = absurd (two-ways (sym e))
+told-once (Refused x) (Count n) e = absurd (two-ways e)
+told-once (Refused x) (Refused y) e = ap Refused (refused-once {X = ℕ} x y e)
+
+guarded-passed : {A : Type 0} (v : Verdict) (o : Outcome A) (a : A) → guarded v o ≡ accepted a → (v ≡ Passed) × (o ≡ accepted a)
+guarded-passed Passed o a e = (refl, e)
+guarded-passed (Failed n) o a e = absurd (two-ways e)
+
+pub record Answered (f : List ℕ) (voice first : ℕ) (os js : List ℕ) : Type 0 where
+  pub song : Song
+  pub file : musOutcome f ≡ accepted song
+  pub number : ltb voice 1 || ltb 3 voice ≡ false
+  pub lengths : length os ≡ length js
+  pub window : listing f voice first os js ≡ windowIn f (voiceOf song voice) first os js
+
+module _ (f : List ℕ) (voice first : ℕ) (os js : List ℕ) where
+  -- '41 voice not 1 to 3', before all else
+  pub voice-first : ltb voice 1 || ltb 3 voice ≡ true → listing f voice first os js .answer ≡ refused 41 0
+  unfolding listing
+  voice-first e = rw e
+
+  -- '42 two lists of unequal length'
+  pub lengths-next : ltb voice 1 || ltb 3 voice ≡ false → (length os ≡ length js → ⊥) → listing f voice first os js .answer ≡ refused 42 0
+  unfolding listing
+  lengths-next e n = rw (e, ne-eqb (length os) (length js) n)
+
+  -- '40, 41 and 42 are tested before the file, in that order'
+  pub file-last : ltb voice 1 || ltb 3 voice ≡ false → length os ≡ length js → listing f voice first os js ≡ filledBy f voice first os js (musOutcome f)
+  unfolding listing
+  file-last e same = rw (e, eq-eqb (length os) (length js) same)
+
+  -- 'A refusal .. changes no lent memory'
+  pub refused-unchanged : {number place : ℕ} → listing f voice first os js .answer ≡ refused number place → (listing f voice first os js .offsets ≡ os) × (listing f voice first os js .jiffies ≡ js)
+  unfolding listing
+  refused-unchanged {number} {place} e = go (guarded (firstOf (callerTests voice (length os) (length js))) (musOutcome f)) e
+    where
+      go : (o : Outcome Song) → filledBy f voice first os js o .answer ≡ refused number place → (filledBy f voice first os js o .offsets ≡ os) × (filledBy f voice first os js o .jiffies ≡ js)
+      go (accepted s) q = absurd (two-ways (sym q))
+      go (refused n p) q = (refl, refl)
+
+  -- 'it returns how many'
+  pub accepted-window : {n : ℕ} → listing f voice first os js .answer ≡ accepted n → Answered f voice first os js
+  unfolding listing
+  accepted-window {n} e = go (guarded (firstOf (callerTests voice (length os) (length js))) (musOutcome f)) refl e
+    where
+      go : (o : Outcome Song) → guarded (firstOf (callerTests voice (length os) (length js))) (musOutcome f) ≡ o → filledBy f voice first os js o .answer ≡ accepted n → Answered f voice first os js
+      go (accepted s) q h =
+          let passed = guarded-passed (firstOf (callerTests voice (length os) (length js))) (musOutcome f) s q in
+          let none = passed-none (callerTests voice (length os) (length js)) (passed .0) in
+          record {
+            song = s;
+            file = passed .1;
+            number = none .0;
+            lengths = eqb-true (length os) (length js) (not-false (eqb (length os) (length js)) (none .1 .0));
+            window = rw q;
+          }
+      go (refused m p) q h = absurd (two-ways h)
+
+abbrev pub countIn : List ℕ → Voice → ℕ → List ℕ → ℕ
+countIn f v first cells = countOf (length cells) first (playedIn f v)
+
+abbrev pub numbersOf : List Event → List ℕ
+numbersOf es = map (λ (e : Event). e .number) es
+
+-- a list with a window in its first cells, where there is enough to fill them
+module _ (first n : ℕ) (xs cells : List ℕ) (enough : n ≤ length xs - first) where
+  window-length : length (take n (drop first xs)) ≡ n
+  window-length = simp (length-take, length-drop) (omega arith)
+
+  filled-length : n ≤ length cells → length (filled first n xs cells) ≡ length cells
+  filled-length room = simp (length-append, window-length, length-drop) (omega arith)
+
+  filled-at : (i : ℕ) → i < n → getD (filled first n xs cells) i 0 ≡ getD xs (first + i) 0
+  filled-at i h = List·getD-append (take n (drop first xs)) (drop n cells) 0 i (omega (arith, window-length)) ∙ getD-take n (drop first xs) i 0 h ∙ getD-drop first xs i 0
+
+  filled-beyond : (i : ℕ) → n ≤ i → getD (filled first n xs cells) i 0 ≡ getD cells i 0
+  filled-beyond i h =
+      let w = take n (drop first xs) in
+      ap (λ (k : ℕ). getD (w ++ drop n cells) k 0) (omega (arith, window-length))
+      ∙ getD-append-add w (drop n cells) (i - n) 0
+      ∙ getD-drop n cells (i - n) 0
+      ∙ ap (λ (k : ℕ). getD cells k 0) (omega arith)
+
+-- a window in two parts, where the first is full, or the second empty
+filled-split : (first a n m k : ℕ) (xs cells : List ℕ) → n ≡ m + k → m ≤ a → a ≤ length cells → (m ≡ a) ⊎ (k ≡ 0)
+    → filled first n xs cells ≡ filled first m xs (take a cells) ++ filled (first + a) k xs (drop a cells)
+filled-split first a n m k xs cells en hm ha (inl e) =
+    let none : drop a (take a cells) ≡ [] = drop-of-length-le (take a cells) {i = a} (omega (arith, length-take a cells)) in
+    rw (en, e, none, append-nil, take-add a k (drop first xs), drop-drop a first xs, drop-drop k a cells, append-assoc)
+filled-split first a n m k xs cells en hm ha (inr e) =
+    let whole : n ≡ m = omega arith in
+    let rest : drop m cells ≡ drop m (take a cells) ++ drop a cells = ap (λ (r : List ℕ). drop m r) (sym (take-append-drop a cells)) ∙ drop-append-le m (take a cells) (drop a cells) (omega (arith, length-take a cells)) in
+    rw (whole, e, append-assoc) (ap (λ (r : List ℕ). take m (drop first xs) ++ r) rest)
+
+length-offsets : (base : ℕ) (es : List Event) → length (offsetsOf base es) ≡ length es
+unfolding offsetsOf
+length-offsets base es = length-map es (λ (e : Event). base + 2 * e .number)
+
+length-listed : (es : List Event) → length (jiffiesOf es) ≡ length es
+unfolding jiffiesOf
+length-listed es = length-jiffies (meanings es) ∙ length-map es (λ (e : Event). e .meaning)
+
+offset-at : (base : ℕ) (es : List Event) (k : ℕ) → k < length es → getD (offsetsOf base es) k 0 ≡ base + 2 * getD (numbersOf es) k 0
+unfolding offsetsOf
+offset-at base [] k h = absurd (not-suc-le-zero h)
+offset-at base (e ∷ es) zero h = refl
+offset-at base (e ∷ es) (suc k) h = offset-at base es k (le-of-suc-le-suc h)
+
+jiffy-at : (es : List Event) (k : ℕ) → k < length es → getD (jiffiesOf es) k 0 ≡ jiffyOf (meanings es) k
+unfolding jiffiesOf
+jiffy-at es k h = jiffies-at (meanings es) k (omega (arith, length-map es (λ (e : Event). e .meaning)))
+
+module _ (f : List ℕ) (v : Voice) (first : ℕ) (os js : List ℕ) where
+  -- 'cell i of the first list holds the offset .. of the event whose number is the first one asked for plus i'
+  pub cell-offset : (i : ℕ) → i < countIn f v first os → getD (windowIn f v first os js .offsets) i 0 ≡ v .offset + 2 * getD (numbersOf (playedIn f v)) (first + i) 0
+  cell-offset i h =
+      let es = playedIn f v in
+      filled-at first (countIn f v first os) (offsetsOf (v .offset) es) os (omega (arith, length-offsets (v .offset) es)) i h
+      ∙ offset-at (v .offset) es (first + i) (omega arith)
+
+  -- 'cell i of the second the jiffy'
+  pub cell-jiffy : (i : ℕ) → i < countIn f v first os → getD (windowIn f v first os js .jiffies) i 0 ≡ jiffyOf (meanings (playedIn f v)) (first + i)
+  cell-jiffy i h =
+      let es = playedIn f v in
+      filled-at first (countIn f v first os) (jiffiesOf es) js (omega (arith, length-listed es)) i h
+      ∙ jiffy-at es (first + i) (omega arith)
+
+  -- 'what lies beyond keeps its old content'
+  pub cell-beyond : (i : ℕ) → countIn f v first os ≤ i → (getD (windowIn f v first os js .offsets) i 0 ≡ getD os i 0) × (getD (windowIn f v first os js .jiffies) i 0 ≡ getD js i 0)
+  cell-beyond i h =
+      let es = playedIn f v in
+      let n = countIn f v first os in (
+        filled-beyond first n (offsetsOf (v .offset) es) os (omega (arith, length-offsets (v .offset) es)) i h,
+        filled-beyond first n (jiffiesOf es) js (omega (arith, length-listed es)) i h,
+      )
+
+  -- 'No call changes a lent cell that it doesn't fill'
+  pub length-kept : length os ≡ length js → (length (windowIn f v first os js .offsets) ≡ length os) × (length (windowIn f v first os js .jiffies) ≡ length js)
+  length-kept same =
+      let es = playedIn f v in
+      let n = countIn f v first os in (
+        filled-length first n (offsetsOf (v .offset) es) os (omega (arith, length-offsets (v .offset) es)) (omega arith),
+        filled-length first n (jiffiesOf es) js (omega (arith, length-listed es)) (omega arith),
+      )
+
+  -- 'it returns how many, 0 past the end'
+  pub past-the-end : length (playedIn f v) ≤ first → windowIn f v first os js ≡ record { answer = accepted 0; offsets = os; jiffies = js }
+  past-the-end h = let none : countIn f v first os ≡ 0 = omega arith in rw none
+
+  -- 'the event whose number is the first one asked for plus i': a second window goes on where the first ends
+  pub two-windows : (a : ℕ) → a ≤ length os → length os ≡ length js
+      → (windowIn f v first os js .offsets ≡ windowIn f v first (take a os) (take a js) .offsets ++ windowIn f v (first + a) (drop a os) (drop a js) .offsets)
+      × (windowIn f v first os js .jiffies ≡ windowIn f v first (take a os) (take a js) .jiffies ++ windowIn f v (first + a) (drop a os) (drop a js) .jiffies)
+      × (countIn f v first os ≡ countIn f v first (take a os) + countIn f v (first + a) (drop a os))
+  two-windows a h same =
+      let es = playedIn f v in
+      let n = countIn f v first os in
+      let m = countIn f v first (take a os) in
+      let k = countIn f v (first + a) (drop a os) in
+      let left : length (take a os) ≡ a = simp length-take (omega arith) in
+      let right = length-drop a os in
+      let sum : n ≡ m + k = omega arith in
+      let two : (m ≡ a) ⊎ (k ≡ 0) = elim (decLe a (length es - first)) [ yes s ↦ inl (omega arith) | no s ↦ inr (omega arith) ] in (
+        filled-split first a n m k (offsetsOf (v .offset) es) os sum (omega arith) h two,
+        filled-split first a n m k (jiffiesOf es) js sum (omega arith) (omega arith) two,
+        sum,
+      )
+
+  -- 'An event's exact time is the sum of the lengths of all events before it there'
+  pub jiffies-never-fall : (i j : ℕ) → i ≤ j → j < countIn f v first os → getD (windowIn f v first os js .jiffies) i 0 ≤ getD (windowIn f v first os js .jiffies) j 0
+  jiffies-never-fall i j h below =
+      omega (arith, cell-jiffy i (omega arith), cell-jiffy j below, jiffies-rise (meanings (playedIn f v)) (first + i) (first + j) (omega arith))
+
+-- 'Its jiffy is that sum in 384ths divided by 384, rounded down'
+pub meet-again : (f g : List ℕ) (v w : Voice) (first next : ℕ) (os js ps ks : List ℕ) (i j : ℕ) → i < countIn f v first os → j < countIn g w next ps
+    → timeOf (meanings (playedIn f v)) (first + i) ≡ timeOf (meanings (playedIn g w)) (next + j)
+    → getD (windowIn f v first os js .jiffies) i 0 ≡ getD (windowIn g w next ps ks .jiffies) j 0
+meet-again f g v w first next os js ps ks i j hi hj e =
+    cell-jiffy f v first os js i hi
+    ∙ same-time (meanings (playedIn f v)) (meanings (playedIn g w)) (first + i) (next + j) e
+    ∙ sym (cell-jiffy g w next ps ks j hj)

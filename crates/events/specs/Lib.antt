@@ -1,0 +1,4 @@
+pub mod Listing
+pub mod Bounds
+pub mod Laws
+pub mod Example

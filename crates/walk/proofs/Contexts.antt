@@ -1,0 +1,153 @@
+-- The middle of a walk: what is in progress around the pair that comes next, and what is still to be walked and to be played.
+-- Context            the repeats, DEFs where they stand and calls in progress, innermost first: a repeat with the number of its HED and the passes that are left,
+--                    this one included, a call with the number of its CAL
+-- height             how many of them are repeats and calls; these the walk keeps
+-- inCall, closerOf   whether a call is among them; what closes the innermost
+-- Fair               a body with that closer, and in a call no DEF in it
+-- shut-fair, flat-fair   from acceptance
+-- eventsIn, pairsIn, depthIn   what a body of a voice comes to
+-- later, toWalk      the events and the pairs behind the body that is being walked, by the bodies that are open around it
+-- Here, Around       the body that is being walked, and those around it, fit their context
+-- Kept               the walk keeps the context
+-- Stands, Start      a body that CAL k stands for, and the pair where such a body begins
+-- Passed, Noted      pairs up to far have been walked, and where their DEFs' bodies begin is noted
+-- Walking            all this at one pair of a walk, where the events es are still to come
+use Prim.Native.Nat.{ℕ, _+_, _-_, _*_, _/_, _<_, _≤_}
+use mathlib.Core.Path.{_≡_, refl}
+use mathlib.Core.Bool.{Bool, true, false}
+use mathlib.Core.List.{List, [], _++_}
+use lib.ListN.{length, getD}
+use Rattle.kind.specs.declared.Kind.the-variants.{Def}
+use Rattle.kind.specs.Kinds.{kindOf}
+use Rattle.bodies.specs.Voice.{pairs, pairAt}
+use Rattle.bodies.specs.Bodies.{Event, Closer, byTal, byEnd, byStop, Body, done, event, repeat, phrase, call, inner, outer}
+use Rattle.bodies.specs.Playing.{interpret, phrasesOf, copies, playing, walking, nesting}
+use Rattle.bodies.specs.Order.{Flat, Shut}
+use Rattle.bodies.specs.Places.{openAt, bodyAt}
+
+pub data Context : Type 0 where
+  outermost : Context
+  repeating : ℕ → ℕ → Context → Context
+  standing : Context → Context
+  calling : ℕ → Context → Context
+
+abbrev pub height : Context → ℕ
+height outermost = 0
+height (repeating h l c) = height c + 1
+height (standing c) = height c
+height (calling p c) = height c + 1
+
+abbrev pub inCall : Context → Bool
+inCall outermost = false
+inCall (repeating h l c) = inCall c
+inCall (standing c) = inCall c
+inCall (calling p c) = true
+
+abbrev pub closerOf : Context → Closer
+closerOf outermost = byStop
+closerOf (repeating h l c) = byTal
+closerOf (standing c) = byEnd
+closerOf (calling p c) = byEnd
+
+unfoldable pub Fair : Bool → Closer → Body → Type 0
+Fair u c (done d) = c ≡ d
+Fair u c (event e r) = Fair u c r
+Fair u c (repeat n i r) = Fair u byTal i × Fair u c r
+Fair u c (phrase k i r) = (u ≡ false) × Fair u byEnd i × Fair u c r
+Fair u c (call k r) = Fair u c r
+
+pub shut-fair : (c : Closer) (b : Body) → Shut c b → Fair false c b
+unfolding Fair Shut
+shut-fair c (done d) s = s
+shut-fair c (event e r) s = shut-fair c r s
+shut-fair c (repeat n i r) s = (shut-fair byTal i (s .0), shut-fair c r (s .1))
+shut-fair c (phrase k i r) s = (refl, shut-fair byEnd i (s .0), shut-fair c r (s .1))
+shut-fair c (call k r) s = shut-fair c r s
+
+pub flat-fair : (c : Closer) (b : Body) → Flat b → Shut c b → Fair true c b
+unfolding Fair Flat Shut
+flat-fair c (done d) f s = s
+flat-fair c (event e r) f s = flat-fair c r f s
+flat-fair c (repeat n i r) f s = (flat-fair byTal i (f .0) (s .0), flat-fair c r (f .1) (s .1))
+flat-fair c (phrase k i r) f s = absurd f
+flat-fair c (call k r) f s = flat-fair c r f s
+
+unfoldable pub Kept : List ℕ → Context → Type 0
+Kept frames outermost = Unit
+Kept frames (repeating h l c) = (getD frames (height c) 0 ≡ h * 256 + l) × Kept frames c
+Kept frames (standing c) = Kept frames c
+Kept frames (calling p c) = (getD frames (height c) 0 ≡ p * 256 + 0) × Kept frames c
+
+unfoldable pub Passed : ℕ → Context → Type 0
+Passed far outermost = Unit
+Passed far (repeating h l c) = (h < far) × Passed far c
+Passed far (standing c) = Passed far c
+Passed far (calling p c) = (p < far) × Passed far c
+
+module _ (bs : List ℕ) where
+  abbrev pub eventsIn : Body → List Event
+  eventsIn b = interpret playing (phrasesOf playing (pairs bs)) b
+
+  abbrev pub pairsIn : Body → ℕ
+  pairsIn b = interpret walking (phrasesOf walking (pairs bs)) b
+
+  abbrev pub depthIn : Body → ℕ
+  depthIn b = interpret nesting (phrasesOf nesting (pairs bs)) b
+
+  unfoldable pub later : List Body → Context → List Event
+  later around outermost = []
+  later around (repeating h l c) = copies (l - 1) (eventsIn (bodyAt (pairs bs) (h + 1))) ++ (eventsIn (inner around) ++ later (outer around) c)
+  later around (standing c) = eventsIn (inner around) ++ later (outer around) c
+  later around (calling p c) = eventsIn (bodyAt (pairs bs) (p + 1)) ++ later (outer (openAt (pairs bs) (p + 1))) c
+
+  unfoldable pub toWalk : List Body → Context → ℕ
+  toWalk around outermost = 0
+  toWalk around (repeating h l c) = 1 + (l - 1) * (pairsIn (bodyAt (pairs bs) (h + 1)) + 1) + (pairsIn (inner around) + toWalk (outer around) c)
+  toWalk around (standing c) = 1 + (pairsIn (inner around) + toWalk (outer around) c)
+  toWalk around (calling p c) = 1 + (pairsIn (bodyAt (pairs bs) (p + 1)) + toWalk (outer (openAt (pairs bs) (p + 1))) c)
+
+  pub record Here (b : Body) (c : Context) : Type 0 where
+    pub fair : Fair (inCall c) (closerOf c) b
+    pub low : depthIn b + height c ≤ 16
+
+  unfoldable pub Around : List Body → Context → Type 0
+  Around around outermost = Unit
+  Around around (repeating h l c) =
+      (0 < l)
+      × (l < 256)
+      × (outer (openAt (pairs bs) (h + 1)) ≡ around)
+      × Here (bodyAt (pairs bs) (h + 1)) (repeating h l c)
+      × Here (inner around) c
+      × Around (outer around) c
+  Around around (standing c) = (inCall c ≡ false) × Here (inner around) c × Around (outer around) c
+  Around around (calling p c) = Here (bodyAt (pairs bs) (p + 1)) c × Around (outer (openAt (pairs bs) (p + 1))) c
+
+  pub record Stands (k : ℕ) (b : Body) : Type 0 where
+    pub fair : Fair true byEnd b
+    pub events : phrasesOf playing (pairs bs) k ≡ eventsIn b
+    pub steps : phrasesOf walking (pairs bs) k ≡ pairsIn b
+    pub depth : phrasesOf nesting (pairs bs) k ≡ depthIn b
+
+  abbrev pub Start : ℕ → ℕ → Type 0
+  Start k p = Stands k (bodyAt (pairs bs) p)
+
+  abbrev pub IsDef : ℕ → ℕ → Type 0
+  IsDef h k = kindOf (pairAt bs h) ≡ Def k
+
+  abbrev pub Noted : ℕ → List ℕ → Type 0
+  Noted far starts = (h k : ℕ) → h < far → h < length bs / 2 → IsDef h k → (getD starts k 0 ≤ far) × Start k (getD starts k 0)
+
+  pub record Walking (at depth : ℕ) (frames starts : List ℕ) (left : ℕ) (es : List Event) : Type 0 where
+    pub context : Context
+    pub far : ℕ
+    pub here : Here (bodyAt (pairs bs) at) context
+    pub around : Around (outer (openAt (pairs bs) at)) context
+    pub kept : Kept frames context
+    pub deep : depth ≡ height context
+    pub reached : at ≤ far
+    pub passed : Passed far context
+    pub noted : Noted far starts
+    pub frames-size : length frames ≡ 16
+    pub starts-size : length starts ≡ 24
+    pub steps : left ≡ pairsIn (bodyAt (pairs bs) at) + toWalk (outer (openAt (pairs bs) at)) context
+    pub events : es ≡ eventsIn (bodyAt (pairs bs) at) ++ later (outer (openAt (pairs bs) at)) context

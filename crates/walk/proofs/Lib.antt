@@ -1,0 +1,6 @@
+pub mod Contexts
+pub mod Steps
+pub mod Closing
+pub mod Facts
+pub mod Walks
+pub mod Listings

@@ -1,0 +1,198 @@
+-- A walk from its first pair on: all events of the played-out voice are still to come; each pair leaves one less to walk, an event one less to play.
+-- walk-start      before the first pair
+-- few-later       no more events are to come than pairs are to be walked
+-- walk-some       where an event is still to come, a pair comes next
+-- walk-event      an event goes by
+-- walk-ready, walk-move   any other pair: what its move may count on, and where the walk goes on
+use Prim.Native.Nat.{ℕ, _+_, _-_, _/_, _<_, _≤_}
+use mathlib.Core.Path.{_≡_, refl, sym, ap, _∙_, subst}
+use mathlib.Core.List.{List, [], _∷_, _++_, append-nil}
+use native.Mathlib.Decide.{decLt}
+use native.Mathlib.Omega.{arith}
+use borrow.Author.Tests.{ltb-false}
+use lib.ListN.{length, length-append}
+use Rattle.kind.specs.declared.Kind.{Kind}
+use Rattle.kind.specs.declared.Kind.the-variants as Kind
+use Rattle.kind.specs.Kinds.{kindOf}
+use Rattle.bodies.specs.Voice.{pairs, pairAt}
+use Rattle.bodies.specs.Bodies as bodies
+use Rattle.bodies.specs.Bodies.{byTal, byEnd, byStop, Body, done, repeat, call, inner, outer, eventAt, bodyOf}
+use Rattle.bodies.specs.Playing.{interpret, phrasesOf, copies, playing, walking, played, walkedOf, depthOf}
+use Rattle.bodies.specs.Places.{openAt, bodyAt}
+use Rattle.bodies.proofs.Cells.{blank}
+use Rattle.bodies.proofs.Related.{related, related-phrases, length-copies, few, fewer}
+use Rattle.bodies.proofs.Stored.{open-end, event-at, hlt-at, bad-at, hed-at, tal-at, def-at, end-at, cal-at}
+use Rattle.mus.specs.Laws.{Passes}
+use Rattle.mus.proofs.Accepted.{accepted-sound}
+use Rattle.moves.specs.declared.Move.{Move}
+use Rattle.moves.specs.declared.Move.the-variants.{Repeat, Phrase, Call, Tal, End}
+use Rattle.moves.specs.declared.Next.the-variants.{Event, Structure}
+use Rattle.moves.specs.declared.Place.{Place}
+use Rattle.moves.specs.Moves.{nextOf, BoundedMove, Room, Ready, placeAfter, framesAfter, startsAfter}
+use Rattle.walk.proofs.Contexts.{Context, outermost, repeating, standing, calling, height, closerOf, Fair, shut-fair, Kept, Passed, eventsIn, pairsIn, later, toWalk, Around, Walking}
+use Rattle.walk.proofs.Facts.{Facts}
+use Rattle.walk.proofs.Steps.{event-step, repeat-step, phrase-step, call-step, opened}
+use Rattle.walk.proofs.Closing.{tal-step, end-step}
+
+module _ (bs : List ℕ) where
+  pub walk-start : (left : ℕ) → Passes (pairs bs) → left ≡ walkedOf (pairs bs) → Walking bs 0 0 (blank 16) (blank 24) left (played (pairs bs))
+  unfolding Around Kept Passed later toWalk played walkedOf depthOf openAt bodyAt bodyOf
+  walk-start left p e =
+      let s = accepted-sound (pairs bs) p in
+      record {
+        context = outermost;
+        far = 0;
+        here = record { fair = shut-fair byStop (bodyOf (pairs bs)) (s .shut); low = omega (arith, ltb-false 16 (depthOf (pairs bs)) (p .limits .0)) };
+        around = tt;
+        kept = tt;
+        deep = refl;
+        reached = omega arith;
+        passed = tt;
+        noted = λ h k l i d. absurd (let z : ⊥ = omega arith in z);
+        frames-size = refl;
+        starts-size = refl;
+        steps = e ∙ omega arith;
+        events = sym (append-nil _);
+      }
+
+  few-events : (b : Body) → length (eventsIn bs b) ≤ pairsIn bs b
+  few-events b =
+      related playing walking (λ es w. length es ≤ w) fewer (phrasesOf playing (pairs bs)) (phrasesOf walking (pairs bs))
+      (λ k. related-phrases playing walking (λ es w. length es ≤ w) fewer (λ j. []) (λ j. 0) (λ j. omega arith) (bodyOf (pairs bs)) k) b
+
+  few-later : (around : List Body) (c : Context) → length (later bs around c) ≤ toWalk bs around c
+  unfolding later toWalk
+  few-later around outermost = omega arith
+  few-later around (repeating h l c) =
+      let b = bodyAt (pairs bs) (h + 1) in
+      let one = length-append (copies (l - 1) (eventsIn bs b)) (eventsIn bs (inner around) ++ later bs (outer around) c) in
+      let two = length-append (eventsIn bs (inner around)) (later bs (outer around) c) in
+      omega (arith, one, two, length-copies (l - 1) (eventsIn bs b), few (l - 1) (length (eventsIn bs b)) (pairsIn bs b) (few-events b), few-events (inner around), few-later (outer around) c)
+  few-later around (standing c) =
+      omega (arith, length-append (eventsIn bs (inner around)) (later bs (outer around) c), few-events (inner around), few-later (outer around) c)
+  few-later around (calling p c) =
+      let b = bodyAt (pairs bs) (p + 1) in
+      let o = outer (openAt (pairs bs) (p + 1)) in
+      omega (arith, length-append (eventsIn bs b) (later bs o c), few-events b, few-later o c)
+
+  module _ (at depth : ℕ) (frames starts : List ℕ) (left : ℕ) (es : List bodies.Event) (w : Walking bs at depth frames starts left es) where
+    pub walk-few : length es ≤ left
+    walk-few =
+        let b = bodyAt (pairs bs) at in
+        let o = outer (openAt (pairs bs) at) in
+        omega (arith, w .steps, ap length (w .events), length-append (eventsIn bs b) (later bs o (w .context)), few-events b, few-later o (w .context))
+
+    -- behind the last pair nothing is in progress
+    ended : (c : Context) → closerOf c ≡ byStop → later bs [] c ≡ []
+    unfolding later
+    ended outermost e = refl
+    ended (repeating h l c) e = absurd (apart-tal e)
+      where
+        apart-tal : byTal ≡ byStop → ⊥
+        apart-tal q = let z : _≡_ {A = ℕ} 0 1 = cc in omega arith
+    ended (standing c) e = absurd (apart-end e)
+      where
+        apart-end : byEnd ≡ byStop → ⊥
+        apart-end q = let z : _≡_ {A = ℕ} 0 1 = cc in omega arith
+    ended (calling p c) e = absurd (apart-end e)
+      where
+        apart-end : byEnd ≡ byStop → ⊥
+        apart-end q = let z : _≡_ {A = ℕ} 0 1 = cc in omega arith
+
+    none-left : length bs / 2 ≤ at → es ≡ []
+    unfolding inner outer bodyAt Fair interpret
+    none-left h =
+        let q = open-end bs at h in
+        let fair : closerOf (w .context) ≡ byStop = rw q at (w .here .fair) in
+        w .events ∙ rw q (ended (w .context) fair)
+
+    pub walk-some : 0 < length es → at < length bs / 2
+    walk-some s = go (decLt at (length bs / 2))
+      where
+        go : Dec (at < length bs / 2) → at < length bs / 2
+        go (yes p) = p
+        go (no p) = absurd (let z : length es ≡ 0 = ap length (none-left (omega arith)) in omega arith)
+
+    pub walk-event : at < length bs / 2 → nextOf (kindOf (pairAt bs at)) ≡ Event
+        → (rest : List bodies.Event) × (es ≡ eventAt at (pairAt bs at) ∷ rest) × Walking bs (at + 1) depth frames starts (left - 1) rest
+    walk-event i e = go (kindOf (pairAt bs at)) refl e
+      where
+        other : {m : Move} → Structure m ≡ Event → ⊥
+        other q = let z : _≡_ {A = ℕ} 0 1 = cc in omega arith
+
+        go : (z : Kind) → kindOf (pairAt bs at) ≡ z → nextOf z ≡ Event
+            → (rest : List bodies.Event) × (es ≡ eventAt at (pairAt bs at) ∷ rest) × Walking bs (at + 1) depth frames starts (left - 1) rest
+        go Kind.Event q n = event-step bs at depth frames starts left es w Kind.Event _ q (λ k d. absurd (let z : _≡_ {A = ℕ} 0 1 = cc in omega arith)) (event-at bs at i q)
+        go (Kind.Hed k) q n = absurd (other n)
+        go Kind.Tal q n = absurd (other n)
+        go (Kind.Def k) q n = absurd (other n)
+        go Kind.End q n = absurd (other n)
+        go (Kind.Cal k) q n = absurd (other n)
+        go Kind.Hlt q n = event-step bs at depth frames starts left es w Kind.Hlt _ q (λ k d. absurd (let z : _≡_ {A = ℕ} 0 1 = cc in omega arith)) (hlt-at bs at i q)
+        go (Kind.Bad b) q n = event-step bs at depth frames starts left es w (Kind.Bad b) _ q (λ k d. absurd (let z : _≡_ {A = ℕ} 0 1 = cc in omega arith)) (bad-at bs at i b q)
+
+    abbrev place : Place
+    place = record { at = at; depth = depth }
+
+    -- a move that its place allows, and where the walk goes on
+    abbrev Moves : Move → Type 0
+    Moves m =
+        Room m depth
+        × Walking bs (placeAfter m place frames starts .at) (placeAfter m place frames starts .depth) (framesAfter m place frames) (startsAfter m place starts) (left - 1) es
+
+    -- TAL closes a repeat, which is kept
+    some-kept : (c : Context) → closerOf c ≡ byTal → depth ≡ height c → 0 < depth
+    some-kept outermost e d = absurd (let z : _≡_ {A = ℕ} 0 1 = cc in omega arith)
+    some-kept (repeating h l c) e d = omega arith
+    some-kept (standing c) e d = absurd (let z : _≡_ {A = ℕ} 0 1 = cc in omega arith)
+    some-kept (calling p c) e d = absurd (let z : _≡_ {A = ℕ} 0 1 = cc in omega arith)
+
+    tal-kept : openAt (pairs bs) at ≡ done byTal ∷ openAt (pairs bs) (at + 1) → 0 < depth
+    unfolding Fair
+    tal-kept q =
+        let fair : closerOf (w .context) ≡ byTal = rw (opened bs at (done byTal) (openAt (pairs bs) (at + 1)) q .0) at (w .here .fair) in
+        some-kept (w .context) fair (w .deep)
+
+    -- one more may be in progress
+    repeat-room : (n : ℕ) (i r : Body) (rest : List Body) → openAt (pairs bs) at ≡ repeat n i r ∷ rest → depth < 16
+    unfolding interpret
+    repeat-room n i r rest q = omega (arith, rw (opened bs at (repeat n i r) rest q .0) at (w .here .low), w .deep)
+
+    call-room : (k : ℕ) (r : Body) (rest : List Body) → openAt (pairs bs) at ≡ call k r ∷ rest → depth < 16
+    unfolding interpret
+    call-room k r rest q = omega (arith, rw (opened bs at (call k r) rest q .0) at (w .here .low), w .deep)
+
+    moves : Facts bs → at < length bs / 2 → (m : Move) → nextOf (kindOf (pairAt bs at)) ≡ Structure m → BoundedMove m → Moves m
+    unfolding placeAfter framesAfter startsAfter
+    moves f i m e b = go (kindOf (pairAt bs at)) refl e
+      where
+        other : Event ≡ Structure m → ⊥
+        other q = let z : _≡_ {A = ℕ} 0 1 = cc in omega arith
+
+        move-as : (x : Move) → Structure x ≡ Structure m → (BoundedMove x → Moves x) → Moves m
+        move-as x q f = let same : x ≡ m = cc in subst Moves same (f (subst BoundedMove (sym same) b))
+
+        go : (z : Kind) → kindOf (pairAt bs at) ≡ z → nextOf z ≡ Structure m → Moves m
+        go Kind.Event q n = absurd (other n)
+        go (Kind.Hed t) q n =
+            let o = hed-at bs at i t q in
+            move-as (Repeat t) n (λ small. ((small, repeat-room t _ _ _ o), repeat-step bs at depth frames starts left es w t q o (f .hed at t i q) small))
+        go Kind.Tal q n = let o = tal-at bs at i q in move-as Tal n (λ u. (tal-kept o, tal-step bs at depth frames starts left es w q o))
+        go (Kind.Def k) q n = move-as (Phrase k) n (λ small. (small, phrase-step bs at depth frames starts left es w k q (def-at bs at i k q) small (f .def at k i q)))
+        go Kind.End q n = move-as End n (λ u. (tt, end-step bs at depth frames starts left es w q (end-at bs at i q)))
+        go (Kind.Cal k) q n =
+            let o = cal-at bs at i k q in
+            let d = f .cal at k i q in
+            move-as (Call k) n (λ small. ((small, call-room k _ _ o), call-step bs at depth frames starts left es w k (d .0) q o i (d .1) (d .2)))
+        go Kind.Hlt q n = absurd (other n)
+        go (Kind.Bad k) q n = absurd (other n)
+
+    pub walk-low : depth ≤ 16
+    walk-low = omega (arith, w .here .low, w .deep)
+
+    pub walk-ready : Facts bs → length bs ≤ 65536 → at < length bs / 2 → (m : Move) → nextOf (kindOf (pairAt bs at)) ≡ Structure m → BoundedMove m → Ready m place
+    walk-ready f s i m e b = record { few = omega arith; low = walk-low; room = moves f i m e b .0 }
+
+    pub walk-move : Facts bs → at < length bs / 2 → (m : Move) → nextOf (kindOf (pairAt bs at)) ≡ Structure m → BoundedMove m
+        → Walking bs (placeAfter m place frames starts .at) (placeAfter m place frames starts .depth) (framesAfter m place frames) (startsAfter m place starts) (left - 1) es
+    walk-move f i m e b = moves f i m e b .1
