@@ -27,9 +27,7 @@ use borrow.Author.Tests.{eq-eqb, ne-eqb, eqb-true, not-false}
 use Rattle.refusals.specs.Numbers.{Outcome}
 use Rattle.refusals.specs.Numbers.Outcome.{accepted, refused}
 use Rattle.refusals.specs.Tests.{firstOf, guarded}
-use Rattle.refusals.specs.Laws.{passed-none, refused-once}
-use Rattle.refusals.specs.declared.Verdict.{Verdict}
-use Rattle.refusals.specs.declared.Verdict.the-variants.{Passed, Failed}
+use Rattle.refusals.specs.Laws.{passed-none, two-ways, guarded-passed, refused-once}
 use Rattle.clock.specs.Times.{timeOf, jiffyOf}
 use Rattle.clock.specs.Running.{length-jiffies, jiffies-at}
 use Rattle.clock.specs.Laws.{jiffies-rise, same-time}
@@ -43,19 +41,12 @@ use Rattle.events.specs.declared.Listed.{Listed}
 use Rattle.events.specs.declared.Listed.the-variants.{Count, Refused}
 use Rattle.events.specs.Listing.{callerTests, voiceOf, playedIn, countOf, windowIn, filledBy, listing, told}
 
-two-ways : {A : Type 0} {a : A} {n p : ℕ} → refused n p ≡ accepted a → ⊥
-two-ways e = let z : _≡_ {A = ℕ} 0 1 = cc in omega arith
-
 -- 'An answer may be an enum. In that case, a definition gives this paper's number and values for each of the enum's cases'
 pub told-once : (a b : Listed) → told a ≡ told b → a ≡ b
 told-once (Count m) (Count n) e = let same : m ≡ n = cc in rw same
 told-once (Count m) (Refused y) e = absurd (two-ways (sym e))
 told-once (Refused x) (Count n) e = absurd (two-ways e)
 told-once (Refused x) (Refused y) e = ap Refused (refused-once {X = ℕ} x y e)
-
-guarded-passed : {A : Type 0} (v : Verdict) (o : Outcome A) (a : A) → guarded v o ≡ accepted a → (v ≡ Passed) × (o ≡ accepted a)
-guarded-passed Passed o a e = (refl, e)
-guarded-passed (Failed n) o a e = absurd (two-ways e)
 
 pub record Answered (f : List ℕ) (voice first : ℕ) (os js : List ℕ) : Type 0 where
   pub song : Song

@@ -1,5 +1,5 @@
-// The pairs of a voice as a walk over it meets them, and where it goes on behind one that is no event, for crates of ours. A repeat in progress is kept as the number of its HED times 256 and the passes that are left, this one
-// included; a call as the number of its CAL times 256.
+// The pairs of a voice as a walk over it meets them, and where it goes on behind one that is no event, for crates of ours. A repeat in progress is kept as the
+// number of its HED times 256 and the passes that are left, this one included; a call as the number of its CAL times 256.
 ghost use mathlib.Core.Path.{_≡_};
 ghost use Prim.Native.Nat.{_+_, _*_, _/_, _<_, _≤_};
 ghost use lib.ListN.{length};

@@ -18,7 +18,7 @@ use Rattle.meaning.specs.declared.Meaning.{Meaning}
 use Rattle.refusals.specs.Numbers.{Outcome}
 use Rattle.refusals.specs.Numbers.Outcome.{accepted, refused}
 use Rattle.refusals.specs.Tests.{None, firstOf}
-use Rattle.refusals.specs.Laws.{passed-none, none-passed, refused-once}
+use Rattle.refusals.specs.Laws.{passed-none, none-passed, two-ways, refused-once}
 use Rattle.refusals.specs.declared.Verdict.{Verdict}
 use Rattle.refusals.specs.declared.Verdict.the-variants.{Passed, Failed}
 use Rattle.container.specs.declared.Span.{Span}
@@ -43,9 +43,6 @@ use Rattle.mus.specs.declared.Reading.the-variants.{Accepted, Refused}
 use Rattle.mus.specs.Voices.{orFound, limited, voiceOutcome}
 use Rattle.mus.specs.Song.{next, voiceIn, songWith, songIn, musOutcome, told}
 use Rattle.mus.specs.Text.{textLine}
-
-two-ways : {A : Type 0} {a : A} {n p : ℕ} → refused n p ≡ accepted a → ⊥
-two-ways e = let z : _≡_ {A = ℕ} 0 1 = cc in omega arith
 
 pub told-once : (a b : Reading) → told a ≡ told b → a ≡ b
 told-once (Accepted s) (Accepted t) e = let same : s ≡ t = cc in rw same

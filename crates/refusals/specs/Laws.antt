@@ -5,7 +5,8 @@
 -- later, first-append        a list in two parts: the second counts where the first passes
 -- testedAll, tested-first    tests made one by one come to what the list comes to
 -- refused-once               a refusal is known by its number and place
--- guarded-accepted           what comes after tests is accepted only where they pass
+-- two-ways                   nothing is both accepted and refused
+-- guarded-passed, guarded-accepted   what comes after tests is accepted only where they pass
 -- both, neither              what a test of two conditions joined shows of each
 use Prim.Native.Nat.{ℕ}
 use mathlib.Core.Path.{_≡_, refl}
@@ -69,9 +70,18 @@ tested-first (t ∷ ts) = go (t .applies) (tested-first ts)
     go true e = tested-failed (numberOf (t .reason)) ts
     go false e = e
 
+pub two-ways : {A : Type 0} {a : A} {n p : ℕ} → refused n p ≡ accepted a → ⊥
+two-ways e = let z : _≡_ {A = ℕ} 0 1 = cc in omega arith
+
+pub guarded-passed : {A : Type 0} (v : Verdict) (o : Outcome A) (a : A) → guarded v o ≡ accepted a → (v ≡ Passed) × (o ≡ accepted a)
+guarded-passed Passed o a e = (refl, e)
+guarded-passed (Failed n) o a e = absurd (two-ways e)
+
 pub guarded-accepted : {A : Type 0} (v : Verdict) (a b : A) → guarded v (accepted b) ≡ accepted a → (v ≡ Passed) × (b ≡ a)
-guarded-accepted Passed a b e = (refl, cc)
-guarded-accepted (Failed n) a b e = let z : _≡_ {A = ℕ} 0 1 = cc in absurd (omega arith)
+guarded-accepted v a b e = let p = guarded-passed v (accepted b) a e in (p .0, same (p .1))
+  where
+    same : accepted b ≡ accepted a → b ≡ a
+    same q = cc
 
 pub refused-once : {X : Type 0} (x y : Refusal) → _≡_ {A = Outcome X} (refused (x .number) (x .place)) (refused (y .number) (y .place)) → x ≡ y
 refused-once x y e =

@@ -1,4 +1,5 @@
 -- TAL and END in a walk: which body they close is told by the context, which the walk has kept.
+-- differ        closers are told apart by their codes
 -- top-repeat    outside calls the innermost that is kept is a repeat
 -- tal-step      TAL: one pass more, or on behind it
 -- end-step      END: on behind it where the DEF stands, or behind the CAL
@@ -22,13 +23,12 @@ use Rattle.moves.specs.Moves.{tal, talFrames, end}
 use Rattle.walk.proofs.Contexts.{Context, outermost, repeating, standing, calling, height, inCall, Fair, Kept, Passed, eventsIn, pairsIn, later, toWalk, Here, Around, Noted, Walking}
 use Rattle.walk.proofs.Steps.{kept-over, passed-more, copies-more, times-more, opened, noted-same}
 
--- closers and truth values are told apart
-abbrev closerCode : Closer → ℕ
+abbrev pub closerCode : Closer → ℕ
 closerCode byTal = 0
 closerCode byEnd = 1
 closerCode byStop = 2
 
-differ : {c d : Closer} → c ≡ d → closerCode c ≡ closerCode d
+pub differ : {c d : Closer} → c ≡ d → closerCode c ≡ closerCode d
 differ e = ap closerCode e
 
 frame-left : (h l : ℕ) → l < 256 → ((h * 256 + l) % 256 ≡ l) × ((h * 256 + l) / 256 ≡ h)

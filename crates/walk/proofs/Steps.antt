@@ -1,4 +1,9 @@
--- Each pair of a walk: what it leaves to be walked and to be played, and that the walk goes on fitting its context.
+-- Each pair of a walk that opens something, and an event: what it leaves to be walked and to be played, and that the walk goes on fitting its context.
+-- kept-over, passed-more   what is kept stays when more is kept, and what has been passed stays passed
+-- copies-more, times-more  one copy more, one time more
+-- opened                   a body and those around it, as the first pair says
+-- noted-same               a pair that is no DEF changes nothing of where DEFs' bodies begin
+-- event-step, repeat-step, phrase-step, call-step   an event, HED, DEF, CAL
 use Prim.Native.Nat.{ℕ, zero, suc, _+_, _-_, _*_, _/_, _<_, _≤_, max}
 use mathlib.Core.Path.{_≡_, refl, sym, _∙_, subst}
 use mathlib.Core.List.{List, _∷_, _++_, append-assoc}
@@ -40,7 +45,6 @@ pub times-more : (n x : ℕ) → 0 < n → n * x ≡ x + (n - 1) * x
 times-more zero x h = absurd (let z : ⊥ = omega arith in z)
 times-more (suc n) x h = rw (sub-one (suc n)) (omega (arith, suc-mul n x))
 
--- a body and those around it, as the first pair says
 pub opened : (bs : List ℕ) (at : ℕ) (b : Body) (rest : List Body) → openAt (pairs bs) at ≡ b ∷ rest → (bodyAt (pairs bs) at ≡ b) × (outer (openAt (pairs bs) at) ≡ rest)
 unfolding bodyAt inner outer
 opened bs at b rest e = (rw e, rw e)

@@ -16,7 +16,7 @@ use Rattle.kind.specs.declared.Kind.the-variants as Kind
 use Rattle.kind.specs.Kinds.{kindOf}
 use Rattle.bodies.specs.Voice.{pairs, pairAt}
 use Rattle.bodies.specs.Bodies as bodies
-use Rattle.bodies.specs.Bodies.{byTal, byEnd, byStop, Body, done, repeat, call, inner, outer, eventAt, bodyOf}
+use Rattle.bodies.specs.Bodies.{byTal, byStop, Body, done, repeat, call, inner, outer, eventAt, bodyOf}
 use Rattle.bodies.specs.Playing.{interpret, phrasesOf, copies, playing, walking, played, walkedOf, depthOf}
 use Rattle.bodies.specs.Places.{openAt, bodyAt}
 use Rattle.bodies.proofs.Cells.{blank}
@@ -32,7 +32,7 @@ use Rattle.moves.specs.Moves.{nextOf, BoundedMove, Room, Ready, placeAfter, fra
 use Rattle.walk.proofs.Contexts.{Context, outermost, repeating, standing, calling, height, closerOf, Fair, shut-fair, Kept, Passed, eventsIn, pairsIn, later, toWalk, Around, Walking}
 use Rattle.walk.proofs.Facts.{Facts}
 use Rattle.walk.proofs.Steps.{event-step, repeat-step, phrase-step, call-step, opened}
-use Rattle.walk.proofs.Closing.{tal-step, end-step}
+use Rattle.walk.proofs.Closing.{differ, tal-step, end-step}
 
 module _ (bs : List ℕ) where
   pub walk-start : (left : ℕ) → Passes (pairs bs) → left ≡ walkedOf (pairs bs) → Walking bs 0 0 (blank 16) (blank 24) left (played (pairs bs))
@@ -86,18 +86,9 @@ module _ (bs : List ℕ) where
     ended : (c : Context) → closerOf c ≡ byStop → later bs [] c ≡ []
     unfolding later
     ended outermost e = refl
-    ended (repeating h l c) e = absurd (apart-tal e)
-      where
-        apart-tal : byTal ≡ byStop → ⊥
-        apart-tal q = let z : _≡_ {A = ℕ} 0 1 = cc in omega arith
-    ended (standing c) e = absurd (apart-end e)
-      where
-        apart-end : byEnd ≡ byStop → ⊥
-        apart-end q = let z : _≡_ {A = ℕ} 0 1 = cc in omega arith
-    ended (calling p c) e = absurd (apart-end e)
-      where
-        apart-end : byEnd ≡ byStop → ⊥
-        apart-end q = let z : _≡_ {A = ℕ} 0 1 = cc in omega arith
+    ended (repeating h l c) e = absurd (let z : _≡_ {A = ℕ} 0 2 = differ e in omega arith)
+    ended (standing c) e = absurd (let z : _≡_ {A = ℕ} 1 2 = differ e in omega arith)
+    ended (calling p c) e = absurd (let z : _≡_ {A = ℕ} 1 2 = differ e in omega arith)
 
     none-left : length bs / 2 ≤ at → es ≡ []
     unfolding inner outer bodyAt Fair interpret
@@ -142,10 +133,10 @@ module _ (bs : List ℕ) where
 
     -- TAL closes a repeat, which is kept
     some-kept : (c : Context) → closerOf c ≡ byTal → depth ≡ height c → 0 < depth
-    some-kept outermost e d = absurd (let z : _≡_ {A = ℕ} 0 1 = cc in omega arith)
+    some-kept outermost e d = absurd (let z : _≡_ {A = ℕ} 2 0 = differ e in omega arith)
     some-kept (repeating h l c) e d = omega arith
-    some-kept (standing c) e d = absurd (let z : _≡_ {A = ℕ} 0 1 = cc in omega arith)
-    some-kept (calling p c) e d = absurd (let z : _≡_ {A = ℕ} 0 1 = cc in omega arith)
+    some-kept (standing c) e d = absurd (let z : _≡_ {A = ℕ} 1 0 = differ e in omega arith)
+    some-kept (calling p c) e d = absurd (let z : _≡_ {A = ℕ} 1 0 = differ e in omega arith)
 
     tal-kept : openAt (pairs bs) at ≡ done byTal ∷ openAt (pairs bs) (at + 1) → 0 < depth
     unfolding Fair
