@@ -5,3 +5,4 @@ pub mod Shares
 pub mod Settings
 pub mod Running
 pub mod Laws
+pub mod Example
