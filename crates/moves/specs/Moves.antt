@@ -1,7 +1,7 @@
 -- What the walk keeps, and how each pair that makes bodies changes it, for the contracts of its code; that this comes to the played-out voice of
 -- crates/bodies/specs/Playing.antt is shown in crates/walk/proofs.
 -- nextOf        a pair by its kind
--- Bounded       the bounds of its number
+-- BoundedMove, Bounded   the bounds of its number
 -- Room, Ready   what a move may count on
 -- top           what is kept of the repeat or call that is innermost
 -- tal, talFrames   behind a TAL: the place, and what is kept
