@@ -25,7 +25,7 @@ use Rattle.sidheader.specs.Payload.{addressed, after, whole, payloadOf}
 use Rattle.sidrefusals.specs.HeaderTests.{headerTests}
 use Rattle.sidrefusals.specs.PayloadTests.{payloadTests, sidTests}
 use Rattle.sid.specs.declared.Header.{Header}
-use Rattle.sid.specs.declared.piece.Piece.{Piece}
+use Rattle.sid.specs.declared.Piece.{Piece}
 use Rattle.sid.specs.Header.{headerOf}
 use Rattle.sid.specs.Answers.{sidOutcome}
 use Rattle.sid.specs.Loading.{loadOutcome, memoryAfter}

@@ -10,8 +10,8 @@ use Rattle.refusals.specs.Numbers.{Outcome}
 use Rattle.refusals.specs.Numbers.Outcome.{accepted, refused}
 use Rattle.sid.specs.declared.Span.{Span}
 use Rattle.sid.specs.declared.Header.{Header}
-use Rattle.sid.specs.declared.piece.Piece.{Piece}
-use Rattle.sid.specs.declared.piece.Piece.the-variants.{Title, Author, Released, Payload}
+use Rattle.sid.specs.declared.Piece.{Piece}
+use Rattle.sid.specs.declared.Piece.the-variants.{Title, Author, Released, Payload}
 use Rattle.sid.specs.Answers.{sidOutcome}
 
 abbrev pub partOf : List ℕ → Span → List ℕ

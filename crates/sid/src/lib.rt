@@ -10,7 +10,7 @@ use refusals::Refusal;
 use refusals::Verdict;
 
 mod accepted;
-mod piece;
+mod pieces;
 mod song;
 
 // What the file's first four bytes say it is.
@@ -23,6 +23,14 @@ pub enum Kind {
 pub struct Span {
     pub from: usize,
     pub len: usize,
+}
+
+// The parts of a file that are shown, by name.
+pub enum Piece {
+    Title,
+    Author,
+    Released,
+    Payload,
 }
 
 // What an accepted file says of itself. load and init are the effective addresses; start is the start song, 1 where the
@@ -135,26 +143,26 @@ pub fn part(file: &[u8], span: Span) -> &[u8]
 pub fn title(file: &[u8]) -> &[u8]
     ensures { λ r. ⌜ now r ≡ titleIn (now (file .entry)) ⌝ }
 {
-    piece::piece_of(file, piece::Piece::Title)
+    pieces::piece_of(file, Piece::Title)
 }
 
 // The author's name in an accepted file; of a refused file nothing.
 pub fn author(file: &[u8]) -> &[u8]
     ensures { λ r. ⌜ now r ≡ authorIn (now (file .entry)) ⌝ }
 {
-    piece::piece_of(file, piece::Piece::Author)
+    pieces::piece_of(file, Piece::Author)
 }
 
 // The released text of an accepted file; of a refused file nothing.
 pub fn released(file: &[u8]) -> &[u8]
     ensures { λ r. ⌜ now r ≡ releasedIn (now (file .entry)) ⌝ }
 {
-    piece::piece_of(file, piece::Piece::Released)
+    pieces::piece_of(file, Piece::Released)
 }
 
 // The payload of an accepted file, without the two address bytes; of a refused file nothing.
 pub fn payload(file: &[u8]) -> &[u8]
     ensures { λ r. ⌜ now r ≡ payloadIn (now (file .entry)) ⌝ }
 {
-    piece::piece_of(file, piece::Piece::Payload)
+    pieces::piece_of(file, Piece::Payload)
 }

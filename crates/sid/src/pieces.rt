@@ -2,16 +2,9 @@
 ghost use mathlib.Core.Path.{_≡_};
 ghost use Rattle.sid.specs.Pieces.{spanOf, pieceIn};
 use crate::Header;
+use crate::Piece;
 use crate::Reading;
 use crate::Span;
-
-// The parts by name.
-pub enum Piece {
-    Title,
-    Author,
-    Released,
-    Payload,
-}
 
 // Where the header says that a part lies.
 fn span_of(h: Header, piece: Piece) -> Span

@@ -4,8 +4,8 @@ use denote.Ref.{now}
 use borrow.Author.Needs.{needs}
 use Rattle.sid.specs.Answers.{told}
 use Rattle.sid.proofs.Outcomes.{piece-refused, piece-accepted}
-use Rattle.sid.proofs.piece.piece_of.Statement.{statement}
-use Rattle.sid.proofs.piece.piece_of.Tie as tie
+use Rattle.sid.proofs.pieces.piece_of.Statement.{statement}
+use Rattle.sid.proofs.pieces.piece_of.Tie as tie
 
 read-requires : tie.Need-read-requires
 read-requires c κs = search needs

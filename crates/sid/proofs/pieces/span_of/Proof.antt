@@ -1,7 +1,7 @@
 -- `span_of` meets its contract: each arm is a case of `spanOf`. Assumes nothing.
 use borrow.Author.Needs.{needs}
-use Rattle.sid.proofs.piece.span_of.Statement.{statement}
-use Rattle.sid.proofs.piece.span_of.Tie as tie
+use Rattle.sid.proofs.pieces.span_of.Statement.{statement}
+use Rattle.sid.proofs.pieces.span_of.Tie as tie
 
 enum-told : tie.Need-enum-told
 enum-told c = search needs
