@@ -3,8 +3,8 @@ use libc::STDOUT_FILENO;
 use refusals::Refusal;
 use sid::Header;
 use sid::Kind;
+use sid::Piece;
 use sid::Reading;
-use sid::Span;
 
 fn write(text: &[u8]) {
     io::write_all(STDOUT_FILENO, text);
@@ -33,10 +33,10 @@ fn pair_line(word: &[u8], a: usize, b: usize) {
 }
 
 // A line of a word and a text, as its bytes are.
-fn text_line(word: &[u8], file: &[u8], span: Span) {
+fn text_line(word: &[u8], text: &[u8]) {
     write(word);
     write(b" ");
-    write(sid::part(file, span));
+    write(text);
     write(b"\n");
 }
 
@@ -69,9 +69,9 @@ fn show_flags(h: Header) {
 }
 
 fn show_parts(file: &[u8], h: Header) {
-    text_line(b"title", file, h.title);
-    text_line(b"author", file, h.author);
-    text_line(b"released", file, h.released);
+    text_line(b"title", tune::shown(file, h, Piece::Title));
+    text_line(b"author", tune::shown(file, h, Piece::Author));
+    text_line(b"released", tune::shown(file, h, Piece::Released));
     let payload = h.payload;
     pair_line(b"payload", payload.from, payload.len);
 }

@@ -4,6 +4,7 @@ use libc::STDOUT_FILENO;
 use refusals::Refusal;
 use sid::Header;
 use sid::Kind;
+use sid::Piece;
 use sid::Reading;
 use sid::SongSpeed;
 use sid::Span;
@@ -163,6 +164,31 @@ fn piece_line(name: &[u8], file: &[u8]) {
     write(b"\n");
 }
 
+// A line with the same parts of a tune, of a file's first n bytes and the header of the whole.
+fn tune_line(name: &[u8], file: &[u8], h: Header, n: usize) {
+    let cut = sid::part(file, Span { from: 0, len: n });
+    write(name);
+    show(b"tune", n);
+    write(b" [");
+    write(tune::shown(cut, h, Piece::Title));
+    write(b"] [");
+    write(tune::shown(cut, h, Piece::Author));
+    write(b"] [");
+    write(tune::shown(cut, h, Piece::Released));
+    write(b"]");
+    show(b"payload", tune::shown(cut, h, Piece::Payload).len());
+    write(b"\n");
+}
+
+// The tune of a file, whole and cut within the payload, the author and the title, and before them.
+fn show_tunes(name: &[u8], file: &[u8], h: Header) {
+    tune_line(name, file, h, file.len());
+    tune_line(name, file, h, 128);
+    tune_line(name, file, h, 60);
+    tune_line(name, file, h, 24);
+    tune_line(name, file, h, 22);
+}
+
 // The lines that only the first two files have: loads into memories of other sizes, and the parts.
 fn report_more(name: &[u8], file: &[u8]) {
     let mut none = [EMPTY; 0];
@@ -190,6 +216,9 @@ fn report(name: &[u8], file: &[u8], first_two: bool) {
             let songs = h.songs;
             if 1 < songs {
                 song_line(name, file, songs);
+            }
+            if first_two {
+                show_tunes(name, file, h);
             }
         }
         Reading::Refused(_) => {

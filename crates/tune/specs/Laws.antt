@@ -1,0 +1,49 @@
+-- A part of a tune is a part of the lent bytes, and of an accepted file's tune it is the part that the papers name.
+-- place-span     a part lies where the header says
+-- shown-piece    of an accepted file, each part is the one that `sid` hands out
+-- texts-shown    of an accepted file, the texts are the paper's: the first 31 bytes, cut before the first zero
+-- payload-shown  and the payload has as many bytes as its header says
+-- part-length    whatever the place, by hand or not: of its bytes those that lie in the file, so none where it begins past the end
+-- part-byte      byte i of a part is byte i of the file from the part's first byte on
+use Prim.Native.Nat.{ℕ, _+_, _-_, _<_, min}
+use mathlib.Core.Path.{_≡_, refl, subst, _∙_}
+use mathlib.Core.List.{List}
+use denote.Ref.{RefT, now}
+use lib.ListN.{length, drop, getD, length-take, length-drop}
+use lib.Seq.{getD-take, getD-drop}
+use Rattle.refusals.specs.Numbers.Outcome.{accepted}
+use Rattle.sid.specs.declared.Span.{Span}
+use Rattle.sid.specs.declared.Header.{Header}
+use Rattle.sid.specs.declared.Piece.{Piece}
+use Rattle.sid.specs.declared.Piece.the-variants.{Title, Author, Released, Payload}
+use Rattle.sid.specs.Header.{textAt, headerOf}
+use Rattle.sid.specs.Answers.{sidOutcome}
+use Rattle.sid.specs.Pieces.{partOf, spanOf, pieceIn}
+use Rattle.sid.specs.Laws.{accepted-header, text-part, payload-whole}
+use Rattle.tune.specs.Tune.{tuneOf, placeIn}
+
+pub place-span : (s : RefT (List ℕ)) (h : Header) (p : Piece) → placeIn (tuneOf s h) p ≡ spanOf h p
+place-span s h Title = refl
+place-span s h Author = refl
+place-span s h Released = refl
+place-span s h Payload = refl
+
+pub shown-piece : (s : RefT (List ℕ)) (h : Header) (p : Piece) → sidOutcome (now s) ≡ accepted h → partOf (now s) (placeIn (tuneOf s h) p) ≡ pieceIn (now s) p
+unfolding pieceIn
+shown-piece s h p e = rw (e, place-span s h p)
+
+pub texts-shown : (s : RefT (List ℕ)) (h : Header) → sidOutcome (now s) ≡ accepted h
+    → (partOf (now s) (tuneOf s h .title) ≡ textAt (now s) 0x16) × (partOf (now s) (tuneOf s h .author) ≡ textAt (now s) 0x36) × (partOf (now s) (tuneOf s h .released) ≡ textAt (now s) 0x56)
+unfolding headerOf
+texts-shown s h e =
+    subst (λ (k : Header). (partOf (now s) (k .title) ≡ textAt (now s) 0x16) × (partOf (now s) (k .author) ≡ textAt (now s) 0x36) × (partOf (now s) (k .released) ≡ textAt (now s) 0x56))
+    (accepted-header (now s) h e) (text-part (now s) 0x16, text-part (now s) 0x36, text-part (now s) 0x56)
+
+pub payload-shown : (s : RefT (List ℕ)) (h : Header) → sidOutcome (now s) ≡ accepted h → length (partOf (now s) (tuneOf s h .payload)) ≡ h .payload .len
+payload-shown s h e = subst (λ (k : Header). length (partOf (now s) (k .payload)) ≡ k .payload .len) (accepted-header (now s) h e) (payload-whole (now s))
+
+pub part-length : (f : List ℕ) (place : Span) → length (partOf f place) ≡ min (place .len) (length f - place .from)
+part-length f place = simp (length-take, length-drop)
+
+pub part-byte : (f : List ℕ) (place : Span) (i : ℕ) → i < place .len → getD (partOf f place) i 0 ≡ getD f (place .from + i) 0
+part-byte f place i h = getD-take (place .len) (drop (place .from) f) i 0 h ∙ getD-drop (place .from) f i 0
