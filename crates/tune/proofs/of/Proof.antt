@@ -14,14 +14,13 @@ use base.Logic.{SProp, ent, emp, via, fst∗}
 use base.Fml.{Lft, Share, Fml, ftrue, flft}
 use prog.Memory.{Memory}
 use prog.Routine.{Routine}
-use prog.Wp.{Heap, Calls, Loops, WpFn, Tables}
+use prog.Wp.{Heap, Calls, Loops, WpFn}
 use ghost.Atoms.{Atoms}
 use contract.Monad.{Fun}
 use contract.Running.{givenOf, tables, tablesOf}
 use types.Kit.{Given, ‵, raw, _⊛_, _$_, _∵_, !, qed, by, move, use1, split, fsplit, fjoin, suffices, frame}
 use types.Part.{agg, whole, sub, look-in}
 use types.Run.{look, init, forget, stop, fld, from, load, and-then, no-more, assigns, returns, enter, alloc1, alloc0, params1, pass1, pass0, free1, free0}
-use sound.WpLaws.{WpFn-mono}
 use denote.RattleType.{owns}
 use denote.Laws.{Is}
 use denote.Builtin.{u8}
@@ -32,9 +31,7 @@ use denote.Steps.{nothing, owned}
 use denote.Struct.Laws as LL
 use denote.Struct.Rest.{own-shut}
 use denote.Triple.Entry.{Vals, onEntry}
-use denote.Triple.Spec.{Meets, tripleOf}
-use denote.Triple.Table.{entered}
-use denote.Triple.Walked.{says, Stays, stay-none, stay-none-slice, walkOf, goes-none, goes-none-slice, Walks, ends-at, walked, walk-meets}
+use denote.Triple.Walked.{says, Stays, stay-none, stay-none-slice, walkOf, goes-none, goes-none-slice, Walks, ends-at, walked}
 use denote.Exit.{yes}
 use Rattle.sid.specs.declared.Header.{Header}
 use Rattle.sid.proofs.Header as Hd
@@ -45,9 +42,10 @@ use Rattle.tune.specs.Tune.{tuneOf}
 use Rattle.tune.specs.declared.Tune.{Tune}
 use Rattle.tune.proofs.Tune as T
 use Rattle.tune.proofs.Tune.Laws as T′
+use Rattle.tune.proofs.ByHand.{proved}
 use Rattle.tune.proofs.of.Key.{name as #tune·of}
 use Rattle.tune.proofs.of as of
-use Rattle.tune.proofs.of.Statement as stated
+use Rattle.tune.proofs.of.Statement.{statement}
 use Rattle.tune.proofs.of.Code as code
 
 abbrev stayed : Stays (of.ended .signature .params) (of.ended .kept)
@@ -114,13 +112,10 @@ module _ {M : Type 1} (𝓤 : URA M) (H : Heap 𝓤) (A : Atoms 𝓤) (W : Given
   of-walks C Λ = walked 𝓤 H A of.ended stayed (of.clauses 𝓤 H A mem run) (WpFn 𝓤 H C Λ code.function) (λ κs. (slice-vals, (LL.vals Hd.the-type Hd′.the-laws, tt))) (λ κs. (shr-slice-tells (named 0) (κs .0) u8, (LL.tells Hd.the-type Hd′.the-laws, tt)))
       (λ κs qs bounds a g are. via 𝓤 _ (fst∗ 𝓤 _ (emp 𝓤)) (walk 𝓤 H A W mem run (κs .0) (qs .0) (a .0) (a .1 .0) (are .1 .0) C Λ (LL.lawful Hd.the-type Hd′.the-laws 𝓤 H A W .typed (a .1 .0) _ (are .1 .0) .0) (are .0)))
 
-of-meets : {M : Type 1} (𝓤 : URA M) (H : Heap 𝓤) (A : Atoms 𝓤) → Given 𝓤 H A → (mem : Memory → SProp 𝓤) (run : Routine → Fun 𝓤) (𝓣 : Tables 𝓤 H)
-    → Meets 𝓤 H A of.signature (WpFn 𝓤 H (𝓣 .C) (𝓣 .Λ) code.function) (of.spec 𝓤 H A mem run)
-of-meets 𝓤 H A W mem run 𝓣 = walk-meets 𝓤 H A of.ended stayed W (goes-none-slice 𝓤 H A W 1 (0 ∷ []) tt (plain (λ _. u8)) yes, (goes-none 𝓤 H A W 1 (λ _. Hd.the-row) yes (λ κs x f. refl), tt)) (of.clauses 𝓤 H A mem run) (WpFn 𝓤 H (𝓣 .C) (𝓣 .Λ) code.function) (WpFn-mono 𝓤 H (W .laws) 𝓣 code.function) (of-walks 𝓤 H A W mem run (𝓣 .C) (𝓣 .Λ))
-
-pub of-spec : {M : Type 1} → stated.statement M
+pub of-spec : {M : Type 1} → statement M
 unfolding code.routine tablesOf
 of-spec 𝓤 H 𝓜 𝓖 𝓡 =
-    entered 𝓤 H (tripleOf 𝓤 H (𝓖 .A) of.signature (of.spec 𝓤 H (𝓖 .A) (𝓜 .mem) (𝓡 .run)))
-    (tables 𝓤 H 𝓜 𝓡 code.env .C) (tables 𝓤 H 𝓜 𝓡 code.env .Λ) #tune·of code.function (code.unfolded 𝓤 H 𝓜 𝓡)
-    (of-meets 𝓤 H (𝓖 .A) (givenOf 𝓤 H 𝓜 𝓖) (𝓜 .mem) (𝓡 .run) (tablesOf 𝓤 H 𝓜 (tables 𝓤 H 𝓜 𝓡 code.env)))
+    let A = 𝓖 .A in
+    let W = givenOf 𝓤 H 𝓜 𝓖 in
+    proved 𝓤 H 𝓜 𝓖 𝓡 of.ended stayed (goes-none-slice 𝓤 H A W 1 (0 ∷ []) tt (plain (λ _. u8)) yes, (goes-none 𝓤 H A W 1 (λ _. Hd.the-row) yes (λ κs x f. refl), tt))
+    (of.clauses 𝓤 H A (𝓜 .mem) (𝓡 .run)) code.env #tune·of code.function (code.unfolded 𝓤 H 𝓜 𝓡) (λ _. of-walks 𝓤 H A W (𝓜 .mem) (𝓡 .run) (tables 𝓤 H 𝓜 𝓡 code.env .C) (tables 𝓤 H 𝓜 𝓡 code.env .Λ))

@@ -15,7 +15,7 @@ use base.Logic.{SProp, ent, sep, emp, via, fst∗, id⊢}
 use base.Fml.{Lft, Share, Fml, ftrue, flft, fat, froom, fdies}
 use prog.Memory.{Memory}
 use prog.Routine.{Routine}
-use prog.Wp.{Heap, Env, Calls, Loops, Wp, WpFn, Tables, afterSeq, atReturn}
+use prog.Wp.{Heap, Env, Calls, Loops, Wp, WpFn, afterSeq, atReturn}
 use ghost.Atoms.{Atoms, sem}
 use contract.Monad.{Fun, fact}
 use contract.Running.{givenOf, tables, tablesOf}
@@ -24,7 +24,7 @@ use types.Kit.{Given, Item, Sq, runs, settles, anyQ, atRet, ‵, raw, _⊛_, ⋆
 use types.Part.{whole}
 use types.Match.{vrt, look-tag}
 use types.Run.{look, init, forget, stop, fld, from, load, of-opd, and-then, no-more, assigns, first, switches-on, exec, land, land-last, returns, enter, alloc1, alloc0, params1, pass1, pass0, free1, free0}
-use sound.WpLaws.{FmC, fmOf, WpFn-mono}
+use sound.WpLaws.{FmC}
 use denote.RattleType.{owns}
 use denote.Laws.{Is, shows}
 use denote.Builtin.{u8}
@@ -37,9 +37,9 @@ use denote.Struct.Laws as LL
 use denote.Triple.Statement.{Contract, Triple}
 use denote.Triple.Call.{calls-at, calls-at-last}
 use denote.Triple.Entry.{Vals, onEntry}
-use denote.Triple.Spec.{Meets, tripleOf}
-use denote.Triple.Table.{entered, cited}
-use denote.Triple.Walked.{says, Stays, stay-none, stay-none-slice, walkOf, goes-none, goes-none-slice, Walks, ends-at, walked, walk-meets}
+use denote.Triple.Spec.{tripleOf}
+use denote.Triple.Table.{cited}
+use denote.Triple.Walked.{says, Stays, stay-none, stay-none-slice, walkOf, goes-none, goes-none-slice, Walks, ends-at, walked}
 use denote.Exit.{yes}
 use denote.Triple.Clauses.{ensured}
 use Rattle.sid.specs.Pieces.{partOf, spanOf}
@@ -55,7 +55,8 @@ use Rattle.tune.specs.Laws.{place-span}
 use Rattle.tune.specs.declared.Tune.{Tune}
 use Rattle.tune.proofs.Tune as T
 use Rattle.tune.proofs.Tune.Laws as T′
-use Rattle.tune.proofs.Taken.{B, slice, promised, Handing, clause}
+use Rattle.tune.proofs.ByHand.{slice, TuneRow, clause, proved}
+use Rattle.tune.proofs.Taken.{promised, Handing}
 use Rattle.tune.proofs.of as of
 use Rattle.tune.proofs.of.Symbol as of-def
 use Rattle.tune.proofs.of.Symbol.{name as #tune·of}
@@ -71,7 +72,7 @@ use Rattle.tune.proofs.payload.Symbol as payload-def
 use Rattle.tune.proofs.payload.Met as payload-thm
 use Rattle.tune.proofs.shown.Key.{name as #tune·shown}
 use Rattle.tune.proofs.shown as shown
-use Rattle.tune.proofs.shown.Statement as stated
+use Rattle.tune.proofs.shown.Statement.{statement}
 use Rattle.tune.proofs.shown.Code as code
 use Rattle.tune.proofs.shown.Code.Mir as body
 
@@ -125,7 +126,7 @@ module _ {M : Type 1} (𝓤 : URA M) (H : Heap 𝓤) (A : Atoms 𝓤) (W : Given
   OwnHeader = Hd.the-row .own h (w ∷ [])
 
   abbrev OwnTune : Tune → Val → Fml
-  OwnTune t u = B (κ, tt) .own t (u ∷ [])
+  OwnTune t u = TuneRow (κ, tt) .own t (u ∷ [])
 
   -- what the parameters own, which is kept for the exit
   abbrev Kept : Piece → Fml
@@ -186,7 +187,7 @@ module _ {M : Type 1} (𝓤 : URA M) (H : Heap 𝓤) (A : Atoms 𝓤) (W : Given
     landed : (p : Piece) (t : Tune) (u : Val) → t ≡ tuneOf s h → (u′ : Val) → Sq W (raw (Handing 𝓤 H A mem run p .post (to p t u) u′) ∷ ‵ (Kept p) ∷ Locals (full (T′.mir erased) l₄ u) p) (settles E (place 5 []) u′ (Then p))
     landed p t u e u′ =
         use1 W (later (some (λ (r : RefT (List ℕ)). (token ⊛ ‵ (OwnSlice r u′)) ⊛ raw (ensured 𝓤 H A title.ended (promised 𝓤 H A mem run p) (κ, tt) (t, tt) tt r)))) (id⊢ 𝓤 _) $ await ! tt $ pick ! (λ r.
-        split ! $ move ! (1 ∷ []) $ use1 W (raw (fact 𝓤 (now r ≡ partOf (now (t .file)) (placeIn t p)))) (clause 𝓤 H A mem run title.ended (κ, tt) (t, tt) _) $ heard ! (now r ≡ partOf (now (t .file)) (placeIn t p)) (λ e′. split ! $ move ! (1 ∷ []) $
+        split ! $ move ! (1 ∷ []) $ use1 W (raw (fact 𝓤 (now r ≡ partOf (now (t .file)) (placeIn t p)))) (clause 𝓤 H A title.ended (κ, tt) (t, tt) _) $ heard ! (now r ≡ partOf (now (t .file)) (placeIn t p)) (λ e′. split ! $ move ! (1 ∷ []) $
         -- [the result; the token; what the parameters own; room for _9; …; room for _5; …; _4; …; _1; …; room for _0; …]
         peeks ! (ShrSlice (named 0) κ u8) (Is (ShrSlice (named 0) κ u8)) (shows 𝓤 H A (ShrSlice (named 0) κ u8)) r (u′ ∷ []) (λ is.
         land-last ! (from ! (stop !)) (init ! 11 refl (shr-slice-lawful 𝓤 H A W erased κ u8 .typed r _ is .0)) $ exec ! C Λ E body.t-3 (atRet E (Post p)) $
@@ -221,9 +222,9 @@ module _ {M : Type 1} (𝓤 : URA M) (H : Heap 𝓤) (A : Atoms 𝓤) (W : Given
         use1 W (raw (Of 𝓤 H A mem run .pre to-of) ⊛ ‵ (Kept p)) (goes-of p) $ split ! $
         calls-at ! fm (Of 𝓤 H A mem run) known-of to-of (and-then ! (load ! (from ! (stop !)) (look ! 18 refl)) (and-then ! (load ! (from ! (stop !)) (look ! 16 refl)) (no-more !))) (λ u.
         use1 W (later (some (λ (t : Tune). (token ⊛ ‵ (OwnTune t u)) ⊛ raw (ensured 𝓤 H A of.ended (of.clauses 𝓤 H A mem run) (κ, tt) (s, (h, tt)) tt t)))) (id⊢ 𝓤 _) $ await ! tt $ pick ! (λ t.
-        split ! $ move ! (1 ∷ []) $ use1 W (raw (fact 𝓤 (t ≡ tuneOf s h))) (clause 𝓤 H A mem run of.ended (κ, tt) (s, (h, tt)) _) $ heard ! (t ≡ tuneOf s h) (λ e. split ! $ move ! (1 ∷ []) $
+        split ! $ move ! (1 ∷ []) $ use1 W (raw (fact 𝓤 (t ≡ tuneOf s h))) (clause 𝓤 H A of.ended (κ, tt) (s, (h, tt)) _) $ heard ! (t ≡ tuneOf s h) (λ e. split ! $ move ! (1 ∷ []) $
         -- [what the tune owns; the token; what the parameters own; room for _9; …; room for _4; …; _3; …; _2; …; _1; …; room for _0; …]
-        peeks ! (B (κ, tt)) (Is (B (κ, tt))) (shows 𝓤 H A (B (κ, tt))) t (u ∷ []) (λ is.
+        peeks ! (TuneRow (κ, tt)) (Is (TuneRow (κ, tt))) (shows 𝓤 H A (TuneRow (κ, tt))) t (u ∷ []) (λ is.
         land ! (from ! (stop !)) (init ! 13 refl (LL.lawful (T.the-type (erasedLft κ)) (T′.the-laws (erasedLft κ)) 𝓤 H A W .typed t _ is .0)) $
         first ! $ matched p t u e (LL.lawful (T.the-type (erasedLft κ)) (T′.the-laws (erasedLft κ)) 𝓤 H A W .typed t _ is .0)))))
 
@@ -244,20 +245,16 @@ module _ {M : Type 1} (𝓤 : URA M) (H : Heap 𝓤) (A : Atoms 𝓤) (W : Given
       (λ κs qs bounds a g are. via 𝓤 _ (fst∗ 𝓤 _ (emp 𝓤)) (walk 𝓤 H A W mem run (κs .0) (qs .0) (a .0) (a .1 .0) C Λ fm known-of known (a .1 .1 .0) (are .0)
       (LL.lawful Hd.the-type Hd′.the-laws 𝓤 H A W .typed (a .1 .0) _ (are .1 .0) .0) (EL.lawful Pc.the-type Pc′.the-laws 𝓤 H A W tt .typed (a .1 .1 .0) _ (are .1 .1 .0) .0)))
 
-shown-meets : {M : Type 1} (𝓤 : URA M) (H : Heap 𝓤) (A : Atoms 𝓤) (W : Given 𝓤 H A) (mem : Memory → SProp 𝓤) (run : Routine → Fun 𝓤) (𝓣 : Tables 𝓤 H)
-    → Triple 𝓤 (𝓣 .C #tune·of) (Of 𝓤 H A mem run) → ((p : Piece) → Triple 𝓤 (𝓣 .C (key p)) (Handing 𝓤 H A mem run p)) → Meets 𝓤 H A shown.signature (WpFn 𝓤 H (𝓣 .C) (𝓣 .Λ) code.function) (shown.spec 𝓤 H A mem run)
-shown-meets 𝓤 H A W mem run 𝓣 known-of known =
-    walk-meets 𝓤 H A shown.ended stayed W
-    (goes-none-slice 𝓤 H A W 1 (0 ∷ []) tt (plain (λ _. u8)) yes, (goes-none 𝓤 H A W 1 (λ _. Hd.the-row) yes (λ κs x f. refl), (goes-none 𝓤 H A W 1 (λ _. Pc.the-row) yes (λ κs x f. refl), tt)))
-    (shown.clauses 𝓤 H A mem run) (WpFn 𝓤 H (𝓣 .C) (𝓣 .Λ) code.function) (WpFn-mono 𝓤 H (W .laws) 𝓣 code.function) (shown-walks 𝓤 H A W mem run (𝓣 .C) (𝓣 .Λ) (fmOf 𝓤 H (W .laws) 𝓣) known-of known)
-
-pub shown-spec : {M : Type 1} → stated.statement M
+pub shown-spec : {M : Type 1} → statement M
 unfolding code.routine tablesOf
 shown-spec 𝓤 H 𝓜 𝓖 𝓡 =
-    entered 𝓤 H (tripleOf 𝓤 H (𝓖 .A) shown.signature (shown.spec 𝓤 H (𝓖 .A) (𝓜 .mem) (𝓡 .run)))
-    (tables 𝓤 H 𝓜 𝓡 code.env .C) (tables 𝓤 H 𝓜 𝓡 code.env .Λ) #tune·shown code.function (code.unfolded 𝓤 H 𝓜 𝓡)
-    (shown-meets 𝓤 H (𝓖 .A) (givenOf 𝓤 H 𝓜 𝓖) (𝓜 .mem) (𝓡 .run) (tablesOf 𝓤 H 𝓜 (tables 𝓤 H 𝓜 𝓡 code.env))
-    (cited 𝓤 H (Of 𝓤 H (𝓖 .A) (𝓜 .mem) (𝓡 .run)) 𝓜 𝓡 code.env #tune·of of-def.routine code.calls-tune·of (of-thm.met 𝓤 H 𝓜 𝓖 𝓡)) known)
+    let A = 𝓖 .A in
+    let W = givenOf 𝓤 H 𝓜 𝓖 in
+    proved 𝓤 H 𝓜 𝓖 𝓡 shown.ended stayed
+    (goes-none-slice 𝓤 H A W 1 (0 ∷ []) tt (plain (λ _. u8)) yes, (goes-none 𝓤 H A W 1 (λ _. Hd.the-row) yes (λ κs x f. refl), (goes-none 𝓤 H A W 1 (λ _. Pc.the-row) yes (λ κs x f. refl), tt)))
+    (shown.clauses 𝓤 H A (𝓜 .mem) (𝓡 .run)) code.env #tune·shown code.function (code.unfolded 𝓤 H 𝓜 𝓡) (λ fm.
+    shown-walks 𝓤 H A W (𝓜 .mem) (𝓡 .run) (tables 𝓤 H 𝓜 𝓡 code.env .C) (tables 𝓤 H 𝓜 𝓡 code.env .Λ) fm
+    (cited 𝓤 H (Of 𝓤 H A (𝓜 .mem) (𝓡 .run)) 𝓜 𝓡 code.env #tune·of of-def.routine code.calls-tune·of (of-thm.met 𝓤 H 𝓜 𝓖 𝓡)) known)
   where
     known : (p : Piece) → Triple 𝓤 (tables 𝓤 H 𝓜 𝓡 code.env .C (key p)) (Handing 𝓤 H (𝓖 .A) (𝓜 .mem) (𝓡 .run) p)
     known Title = cited 𝓤 H (Handing 𝓤 H (𝓖 .A) (𝓜 .mem) (𝓡 .run) Title) 𝓜 𝓡 code.env (key Title) title-def.routine code.calls-tune·title (title-thm.met 𝓤 H 𝓜 𝓖 𝓡)
