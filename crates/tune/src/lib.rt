@@ -8,7 +8,7 @@ use sid::Header;
 use sid::Piece;
 use sid::Span;
 
-// The file as it was lent, and its parts' places. It may be made by hand: of a place outside the file a part has nothing.
+// The file as it was lent, and where its parts lie. It may be made by hand: a part has of its place the bytes in the file.
 pub struct Tune<'a> {
     pub file: &'a [u8],
     pub title: Span,
