@@ -150,34 +150,41 @@ fn song_line(name: &[u8], file: &[u8], songs: u16) {
     write(b"\n");
 }
 
-// A line with the parts of a file: the texts in brackets, and the payload's length.
-fn piece_line(name: &[u8], file: &[u8]) {
-    write(name);
-    write(b" pieces [");
-    write(sid::title(file));
+// The end of a line with the parts of a file: the texts in brackets, and the payload's length.
+fn show_pieces(title: &[u8], author: &[u8], released: &[u8], payload: &[u8]) {
+    write(b" [");
+    write(title);
     write(b"] [");
-    write(sid::author(file));
+    write(author);
     write(b"] [");
-    write(sid::released(file));
+    write(released);
     write(b"]");
-    show(b"payload", sid::payload(file).len());
+    show(b"payload", payload.len());
     write(b"\n");
 }
 
-// A line with the same parts of a tune, of a file's first n bytes and the header of the whole.
+// A line with the parts of a file.
+fn piece_line(name: &[u8], file: &[u8]) {
+    write(name);
+    write(b" pieces");
+    show_pieces(
+        sid::title(file),
+        sid::author(file),
+        sid::released(file),
+        sid::payload(file),
+    );
+}
+
+// A line with the parts of a tune, of a file's first n bytes and the header of the whole.
 fn tune_line(name: &[u8], file: &[u8], h: Header, n: usize) {
     let cut = sid::part(file, Span { from: 0, len: n });
+    let title = tune::shown(cut, h, Piece::Title);
+    let author = tune::shown(cut, h, Piece::Author);
+    let released = tune::shown(cut, h, Piece::Released);
+    let payload = tune::shown(cut, h, Piece::Payload);
     write(name);
     show(b"tune", n);
-    write(b" [");
-    write(tune::shown(cut, h, Piece::Title));
-    write(b"] [");
-    write(tune::shown(cut, h, Piece::Author));
-    write(b"] [");
-    write(tune::shown(cut, h, Piece::Released));
-    write(b"]");
-    show(b"payload", tune::shown(cut, h, Piece::Payload).len());
-    write(b"\n");
+    show_pieces(title, author, released, payload);
 }
 
 // The tune of a file, whole and cut within the payload, the author and the title, and before them.

@@ -3,6 +3,7 @@
 -- shown-piece    of an accepted file, each part is the one that `sid` hands out
 -- texts-shown    of an accepted file, the texts are the paper's: the first 31 bytes, cut before the first zero
 -- payload-shown  and the payload has as many bytes as its header says
+-- same-bytes     where the file lies in memory says nothing: of the same bytes and the same header the parts are the same
 -- part-length    whatever the place, by hand or not: of its bytes those that lie in the file, so none where it begins past the end
 -- part-byte      byte i of a part is byte i of the file from the part's first byte on
 use Prim.Native.Nat.{ℕ, _+_, _-_, _<_, min}
@@ -41,6 +42,10 @@ texts-shown s h e =
 
 pub payload-shown : (s : RefT (List ℕ)) (h : Header) → sidOutcome (now s) ≡ accepted h → length (partOf (now s) (tuneOf s h .payload)) ≡ h .payload .len
 payload-shown s h e = subst (λ (k : Header). length (partOf (now s) (k .payload)) ≡ k .payload .len) (accepted-header (now s) h e) (payload-whole (now s))
+
+pub same-bytes : (s s′ : RefT (List ℕ)) (h : Header) (p : Piece) → now s ≡ now s′
+    → partOf (now (tuneOf s h .file)) (placeIn (tuneOf s h) p) ≡ partOf (now (tuneOf s′ h .file)) (placeIn (tuneOf s′ h) p)
+same-bytes s s′ h p e = rw (place-span s h p, place-span s′ h p, e)
 
 pub part-length : (f : List ℕ) (place : Span) → length (partOf f place) ≡ min (place .len) (length f - place .from)
 part-length f place = simp (length-take, length-drop)
