@@ -1,0 +1,46 @@
+-- The code of a meaning: coding and decoding are inverse, and a number is a code exactly of a meaning that some pair has.
+-- written-coded     each meaning that some pair has, has a code of 32 bits that decodes to it
+-- coded-once        no two of them share a code
+-- decoded-coded     a number that decodes has the meaning's code
+-- decoded-once      no two numbers decode to one meaning
+-- read-coded        what two bytes mean has such a code
+-- decoded-unplaced  a number that does not decode is refused at place 0
+use Prim.Native.Nat.{ℕ, _<_}
+use mathlib.Core.Path.{_≡_, sym, _∙_, ap, subst}
+use Rattle.refusals.specs.Numbers.{Outcome}
+use Rattle.refusals.specs.Numbers.Outcome.{accepted, refused}
+use Rattle.meaning.specs.declared.Meaning.{Meaning}
+use Rattle.pair.specs.Pairs.{meaningOf}
+use Rattle.pairlaws.specs.Usual.{usual}
+use Rattle.pairlaws.proofs.Laws.{read-written}
+use Rattle.codes.specs.Coding.{codeOf}
+use Rattle.codes.specs.Decoding.{decoded}
+use Rattle.codelaws.specs.Statements.{Unplaced, Written, Coded}
+use Rattle.codelaws.proofs.Decoding.{Right, decodes}
+use Rattle.codelaws.proofs.Coding.{coded}
+
+pub written-coded : (m : Meaning) → Written m → Coded m
+written-coded m w = coded m w
+
+pub coded-once : (m k : Meaning) → Written m → Written k → codeOf m ≡ codeOf k → m ≡ k
+coded-once m k wm wk e = same (sym (coded m wm .back) ∙ ap decoded e ∙ coded k wk .back)
+  where
+    same : _≡_ {A = Outcome Meaning} (accepted m) (accepted k) → m ≡ k
+    same q = cc
+
+pub decoded-coded : (n : ℕ) (m : Meaning) → decoded n ≡ accepted m → codeOf m ≡ n
+decoded-coded n m e = subst (Right n) e (decodes n)
+
+pub decoded-once : (n k : ℕ) (m : Meaning) → decoded n ≡ accepted m → decoded k ≡ accepted m → n ≡ k
+decoded-once n k m en ek = sym (decoded-coded n m en) ∙ decoded-coded k m ek
+
+pub read-coded : (a b : ℕ) (m : Meaning) → meaningOf a b ≡ accepted m → a < 256 → b < 256 → Coded m
+read-coded a b m e ha hb =
+    coded m record { first = usual a b .first; second = usual a b .second; bytes = read-written m a b (e, ha, hb) }
+
+pub decoded-unplaced : (n : ℕ) → Unplaced (decoded n)
+decoded-unplaced n = go (decoded n) (decodes n)
+  where
+    go : (o : Outcome Meaning) → Right n o → Unplaced o
+    go (accepted m) r = tt
+    go (refused number place) r = r

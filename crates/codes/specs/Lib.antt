@@ -1,0 +1,4 @@
+pub mod Coding
+pub mod Tables
+pub mod Decoding
+pub mod Answers
