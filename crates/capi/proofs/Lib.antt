@@ -1,3 +1,5 @@
 pub mod Front
+pub mod Numbers
 pub mod Places
 pub mod Accepted
+pub mod Laws

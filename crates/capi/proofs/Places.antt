@@ -1,5 +1,5 @@
--- Places of refusals are small, so that they fit below a number.
--- Low, low-fits, unplaced-fits   the place of an outcome, if it is refused; it fits; so does 0
+-- Refusals have a number above 0 and a small place, so that both fit an answer.
+-- Low, low-fits, unplaced-fits   so for an outcome; such a place fits, and so does 0
 -- tests-low          of tests before an outcome
 -- sid-low, load-low, speed-low   of a PSID or RSID file
 -- mus-low, list-low  of a MUS file
@@ -15,7 +15,8 @@ use Rattle.refusals.specs.Numbers.Outcome.{accepted, refused}
 use Rattle.refusals.specs.declared.Verdict.{Verdict}
 use Rattle.refusals.specs.declared.Verdict.the-variants.{Passed, Failed}
 use Rattle.refusals.specs.Numbers.Reason.{memorySize, noSuchSong}
-use Rattle.refusals.specs.Tests.{test, firstOf, guarded}
+use Rattle.refusals.specs.Tests.{Test, test, firstOf, guarded}
+use Rattle.meaning.specs.declared.Meaning.{Meaning}
 use Rattle.sidheader.specs.Fields.{fieldsOf}
 use Rattle.sidheader.specs.Payload.{payloadOf}
 use Rattle.sidrefusals.specs.PayloadTests.{sidTests}
@@ -29,49 +30,54 @@ use Rattle.container.specs.declared.Layout.{Layout}
 use Rattle.container.specs.Layout.{layoutOf, containerTests, containerOutcome}
 use Rattle.container.specs.Laws.{partOf}
 use Rattle.bodies.specs.Voice.{pairs}
+use Rattle.bodies.specs.Playing.{eventsOf, walkedOf}
 use Rattle.bodies.proofs.Stored.{length-pairs}
 use Rattle.structure.specs.declared.Finding.{Finding}
 use Rattle.structure.specs.declared.Finding.the-variants.{Clear, At}
-use Rattle.structure.specs.Findings.{pairsFinding, structureFinding}
+use Rattle.structure.specs.Findings.{pairsTests, nestingsTests, pairsFinding, structureFinding}
+use Rattle.structure.specs.Tests.{start}
 use Rattle.structure.specs.Laws.{pairs-within, structure-within}
-use Rattle.counts.specs.declared.Counted.{Counted}
-use Rattle.counts.specs.declared.Counted.the-variants.{Within, Off}
-use Rattle.counts.specs.Limits.{countOutcome}
+use Rattle.counts.specs.declared.Counted.the-variants.{Within}
+use Rattle.counts.specs.Limits.{limitTests, unlessOff, countOutcome}
 use Rattle.mus.specs.declared.Song.{Song}
 use Rattle.mus.specs.Voices.{orFound, limited, voiceOutcome}
 use Rattle.mus.specs.Song.{next, voiceIn, songWith, songIn, musOutcome}
 use Rattle.mus.specs.Bounds.{InFile}
 use Rattle.mus.proofs.Outcomes.{in-file}
 use Rattle.events.specs.Listing.{callerTests, filledBy, listing}
+use Rattle.capi.proofs.Numbers.{first-above, found-above}
 
 abbrev pub Low : {A : Type 0} → Outcome A → Type 0
 Low (accepted a) = Unit
-Low (refused number place) = place ≤ 65536
+Low (refused number place) = (0 < number) × (place ≤ 65536)
 
-pub low-fits : {p : ℕ} → p ≤ 65536 → p < 0x100000000
+pub low-fits : {n p : ℕ} → (0 < n) × (p ≤ 65536) → p < 0x100000000
 low-fits h = omega arith
 
 pub unplaced-fits : {p : ℕ} → p ≡ 0 → p < 0x100000000
 unplaced-fits e = omega arith
 
-pub tests-low : {A : Type 0} (v : Verdict) (o : Outcome A) → Low o → Low (guarded v o)
-tests-low Passed o h = h
-tests-low (Failed n) o h = lit≤ tt
+pub tests-low : {A : Type 0} (ts : List Test) (o : Outcome A) → Low o → Low (guarded (firstOf ts) o)
+tests-low ts o h = go (firstOf ts) refl
+  where
+    go : (v : Verdict) → firstOf ts ≡ v → Low (guarded v o)
+    go Passed e = h
+    go (Failed n) e = (first-above ts n e, lit≤ tt)
 
 pub sid-low : (f : List ℕ) → Low (sidOutcome f)
 unfolding sidOutcome
-sid-low f = tests-low (firstOf (sidTests f)) (accepted (headerOf f (fieldsOf f) (payloadOf f (fieldsOf f)))) tt
+sid-low f = tests-low (sidTests f) (accepted (headerOf f (fieldsOf f) (payloadOf f (fieldsOf f)))) tt
 
 pub load-low : (f : List ℕ) (cells : ℕ) → Low (loadOutcome f cells)
 unfolding loadOutcome
-load-low f cells = tests-low (firstOf (test memorySize (not (eqb cells 65536)) ∷ [])) (sidOutcome f) (sid-low f)
+load-low f cells = tests-low (test memorySize (not (eqb cells 65536)) ∷ []) (sidOutcome f) (sid-low f)
 
 pub speed-low : (f : List ℕ) (song : ℕ) → Low (speedOutcome f song)
 unfolding speedOutcome
 speed-low f song = go (sidOutcome f) (sid-low f)
   where
     go : (o : Outcome Header) → Low o → Low (songSpeed o song)
-    go (accepted h) l = tests-low (firstOf (test noSuchSong (eqb song 0 || ltb (h .songs) song) ∷ [])) (accepted (speedBit (h .speed) song)) tt
+    go (accepted h) l = tests-low (test noSuchSong (eqb song 0 || ltb (h .songs) song) ∷ []) (accepted (speedBit (h .speed) song)) tt
     go (refused n p) l = l
 
 -- an outcome that comes after another
@@ -79,29 +85,32 @@ next-low : {A B : Type 0} (o : Outcome A) (g : A → Outcome B) → Low o → ((
 next-low (accepted a) g l h = h a refl
 next-low (refused n p) g l h = l
 
-found-low : {A : Type 0} (offset : ℕ) (x : Finding) (later : Outcome A) → ((n i : ℕ) → x ≡ At n i → offset + 2 * i ≤ 65536) → Low later → Low (orFound offset x later)
+found-low : {A : Type 0} (offset : ℕ) (x : Finding) (later : Outcome A) → ((n i : ℕ) → x ≡ At n i → (0 < n) × (offset + 2 * i ≤ 65536)) → Low later → Low (orFound offset x later)
 found-low offset Clear later h l = l
 found-low offset (At n i) later h l = h n i refl
 
-limited-low : (offset len : ℕ) (c : Counted) → offset ≤ 65536 → Low (limited offset len c)
-limited-low offset len (Within events walked) h = tt
-limited-low offset len (Off n) h = h
+limited-low : (offset len : ℕ) (v : List (Outcome Meaning)) → offset ≤ 65536 → Low (limited offset len (countOutcome v))
+limited-low offset len v h = go (firstOf (limitTests v)) refl
+  where
+    go : (x : Verdict) → firstOf (limitTests v) ≡ x → Low (limited offset len (unlessOff x (Within (eventsOf v) (walkedOf v))))
+    go Passed e = tt
+    go (Failed n) e = (first-above (limitTests v) n e, h)
 
 -- a pair of a voice lies in the file
 voice-low : (f : List ℕ) (s : Span) → length f ≤ 65536 → s .from ≤ 65536 → Low (voiceIn f s)
-unfolding voiceOutcome
+unfolding voiceOutcome pairsFinding structureFinding
 voice-low f s short low =
     let v = pairs (partOf f s) in
-    found-low (s .from) (pairsFinding v) (orFound (s .from) (structureFinding v) (limited (s .from) (length (partOf f s)) (countOutcome v))) (λ n i e. inside i (pairs-within v n i e))
-    (found-low (s .from) (structureFinding v) (limited (s .from) (length (partOf f s)) (countOutcome v)) (λ n i e. inside i (structure-within v n i e))
-    (limited-low (s .from) (length (partOf f s)) (countOutcome v) low))
+    found-low (s .from) (pairsFinding v) (orFound (s .from) (structureFinding v) (limited (s .from) (length (partOf f s)) (countOutcome v))) (λ n i e. (found-above 0 (pairsTests v) n i e, inside i (pairs-within v n i e)))
+    (found-low (s .from) (structureFinding v) (limited (s .from) (length (partOf f s)) (countOutcome v)) (λ n i e. (found-above 0 (nestingsTests start v) n i e, inside i (structure-within v n i e)))
+    (limited-low (s .from) (length (partOf f s)) v low))
   where
     inside : (i : ℕ) → i < length (pairs (partOf f s)) → s .from + 2 * i ≤ 65536
     inside i h = omega (arith, length-pairs (partOf f s), length-take (s .len) (drop (s .from) f), length-drop (s .from) f)
 
 pub mus-low : (f : List ℕ) → Low (musOutcome f)
 unfolding musOutcome containerOutcome
-mus-low f = next-low (containerOutcome f) (λ l. songIn f l) (tests-low (firstOf (containerTests f)) (accepted (layoutOf f)) tt) (λ l e. song-low l (in-file f l e))
+mus-low f = next-low (containerOutcome f) (λ l. songIn f l) (tests-low (containerTests f) (accepted (layoutOf f)) tt) (λ l e. song-low l (in-file f l e))
   where
     song-low : (l : Layout) → InFile f l → Low (songIn f l)
     song-low l i =
@@ -111,11 +120,9 @@ mus-low f = next-low (containerOutcome f) (λ l. songIn f l) (tests-low (firstOf
 
 pub list-low : (f : List ℕ) (voice first : ℕ) (os js : List ℕ) → Low (listing f voice first os js .answer)
 unfolding listing
-list-low f voice first os js = go (guarded tests (musOutcome f)) (tests-low tests (musOutcome f) (mus-low f))
+list-low f voice first os js =
+    go (guarded (firstOf (callerTests voice (length os) (length js))) (musOutcome f)) (tests-low (callerTests voice (length os) (length js)) (musOutcome f) (mus-low f))
   where
-    tests : Verdict
-    tests = firstOf (callerTests voice (length os) (length js))
-
     go : (o : Outcome Song) → Low o → Low (filledBy f voice first os js o .answer)
     go (accepted s) l = tt
     go (refused n p) l = l

@@ -1,5 +1,5 @@
 -- Decoding gives back what was coded: of every number, the meaning that it decodes to has that number as its code.
--- Right                      what an outcome says of a number: its meaning's code is the number; if it is refused, at place 0
+-- Right                      what an outcome says of a number: its meaning's code is the number; if it is refused, it is 43
 -- Each, found                what holds of each entry of a table holds of what is found
 -- digits-.., tone-right, note-right   a note, digit by digit
 -- switched-right, bumped-right, bare-right, above-right, below-right   a command, by the kind of its value
@@ -28,17 +28,17 @@ abbrev Each : {A : Type 0} → (A → ℕ → Type 0) → List (Entry A) → Typ
 Each P [] = Unit
 Each P (e ∷ es) = P (e .value) (e .digits) × Each P es
 
--- of what is found, P; else the place is 0
+-- of what is found, P; else it is 43, place 0
 abbrev pub Found : {A : Type 0} → (A → ℕ → Type 0) → ℕ → Outcome A → Type 0
 Found P k (accepted a) = P a k
-Found P k (refused number place) = place ≡ 0
+Found P k (refused number place) = (number ≡ 43) × (place ≡ 0)
 
 -- what an outcome says of a number: its meaning's code is the number
 abbrev pub Right : ℕ → Outcome Meaning → Type 0
 Right n o = Found (λ m i. codeOf m ≡ i) n o
 
 found : {A : Type 0} (P : A → ℕ → Type 0) (es : List (Entry A)) (k : ℕ) → Each P es → Found P k (lookup es k)
-found P [] k h = refl
+found P [] k h = (refl, refl)
 found P (e ∷ es) k h = go (eqb k (e .digits)) refl (found P es k (h .1))
   where
     go : (t : Bool) → eqb k (e .digits) ≡ t → Found P k (lookup es k) → Found P k (pick t (accepted (e .value)) (lookup es k))
@@ -113,14 +113,14 @@ zero-one P p q r v = elim (ℕ-discrete v 0) [
 
 switched-right : (m : Bool → Meaning) (id : ℕ) → codeOf (m false) ≡ id * 0x100000 → codeOf (m true) ≡ id * 0x100000 + 1 → RightFor 0 Any (switched m) id
 switched-right m id off on v u =
-    zero-one (λ v. Right (id * 0x100000 + 0 + v) (switched m v)) (omega (arith, off)) (omega (arith, on)) (λ v h. rw (lt-leb v 1 h)) v
+    zero-one (λ v. Right (id * 0x100000 + 0 + v) (switched m v)) (omega (arith, off)) (omega (arith, on)) (λ v h. rw (lt-leb v 1 h) (refl, refl)) v
 
 bumped-right : RightFor 0 Any (bumped M.Bmp) 0x303
-bumped-right v u = zero-one (λ v. Right (0x303 * 0x100000 + 0 + v) (bumped M.Bmp v)) refl refl (λ v h. rw (lt-leb v 1 h)) v
+bumped-right v u = zero-one (λ v. Right (0x303 * 0x100000 + 0 + v) (bumped M.Bmp v)) refl refl (λ v h. rw (lt-leb v 1 h) (refl, refl)) v
 
 bare-right : (m : Meaning) (id : ℕ) → codeOf m ≡ id * 0x100000 + 0 → RightFor 0 Any (bare m) id
 bare-right m id is v u =
-    zero-one (λ v. Right (id * 0x100000 + 0 + v) (bare m v)) (omega (arith, is)) refl (λ v h. rw (ne-eqb v 0 (λ e. omega arith))) v
+    zero-one (λ v. Right (id * 0x100000 + 0 + v) (bare m v)) (omega (arith, is)) (refl, refl) (λ v h. rw (ne-eqb v 0 (λ e. omega arith)) (refl, refl)) v
 
 pub up : (v : ℕ) → subℕ v 0 ≡ pos v
 up v = rw (le-ltb v 0 (omega arith)) (ap pos (omega arith))
@@ -336,7 +336,7 @@ decodes n = go (eqb (n / 0x10000000) 1) refl (eqb (n / 0x10000 % 0x10) 0) refl (
     go true e plus ep minus em nothing en = note-right n (eqb-true (n / 0x10000000) 1 e)
     go false e true ep minus em nothing en =
         command 0 plain Any (omega (arith, split, eqb-true (n / 0x10000 % 0x10) 0 ep)) tt (found (RightFor 0 Any) plain id plain-right)
-    go false e false ep true em true en = refl
+    go false e false ep true em true en = (refl, refl)
     go false e false ep true em false en =
         command 0x10000 negative NotZero (omega (arith, split, eqb-true (n / 0x10000 % 0x10) 1 em)) (eqb-false (n % 0x10000) 0 en) (found (RightFor 0x10000 NotZero) negative id negative-right)
-    go false e false ep false em nothing en = refl
+    go false e false ep false em nothing en = (refl, refl)

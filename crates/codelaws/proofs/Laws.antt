@@ -4,18 +4,21 @@
 -- decoded-coded     a number that decodes has the meaning's code
 -- decoded-once      no two numbers decode to one meaning
 -- read-coded        what two bytes mean has such a code
--- decoded-unplaced  a number that does not decode is refused at place 0
+-- undecoded, unwritten   a number that does not decode is refused with 43, and so is a meaning that is not written
 use Prim.Native.Nat.{ℕ, _<_}
 use mathlib.Core.Path.{_≡_, sym, _∙_, ap, subst}
 use Rattle.refusals.specs.Numbers.{Outcome}
 use Rattle.refusals.specs.Numbers.Outcome.{accepted, refused}
 use Rattle.meaning.specs.declared.Meaning.{Meaning}
-use Rattle.pair.specs.Pairs.{meaningOf}
+use Rattle.meaning.specs.Answers.{Bytes}
+use Rattle.pair.specs.Pairs.{meaningOf, spellingOf}
+use Rattle.pairlaws.specs.Statements.{ReadsBack}
+use Rattle.pairlaws.proofs.Written.{reads-back}
 use Rattle.pairlaws.specs.Usual.{usual}
 use Rattle.pairlaws.proofs.Laws.{read-written}
 use Rattle.codes.specs.Coding.{codeOf}
 use Rattle.codes.specs.Decoding.{decoded}
-use Rattle.codelaws.specs.Statements.{Unplaced, Written, Coded}
+use Rattle.codelaws.specs.Statements.{WithoutPair, Written, Coded}
 use Rattle.codelaws.proofs.Decoding.{Right, decodes}
 use Rattle.codelaws.proofs.Coding.{coded}
 
@@ -38,9 +41,16 @@ pub read-coded : (a b : ℕ) (m : Meaning) → meaningOf a b ≡ accepted m → 
 read-coded a b m e ha hb =
     coded m record { first = usual a b .first; second = usual a b .second; bytes = read-written m a b (e, ha, hb) }
 
-pub decoded-unplaced : (n : ℕ) → Unplaced (decoded n)
-decoded-unplaced n = go (decoded n) (decodes n)
+pub undecoded : (n : ℕ) → WithoutPair (decoded n)
+undecoded n = go (decoded n) (decodes n)
   where
-    go : (o : Outcome Meaning) → Right n o → Unplaced o
+    go : (o : Outcome Meaning) → Right n o → WithoutPair o
     go (accepted m) r = tt
+    go (refused number place) r = r
+
+pub unwritten : (m : Meaning) → WithoutPair (spellingOf m)
+unwritten m = go (spellingOf m) (reads-back m)
+  where
+    go : (o : Outcome Bytes) → ReadsBack m o → WithoutPair o
+    go (accepted bytes) r = tt
     go (refused number place) r = r

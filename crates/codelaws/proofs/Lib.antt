@@ -1,4 +1,4 @@
-pub mod Unplaced
+pub mod Refused
 pub mod Decoding
 pub mod Sizes
 pub mod Coding

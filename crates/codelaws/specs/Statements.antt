@@ -1,9 +1,11 @@
 -- What the laws of codes say; proofs/Laws.antt has them for all.
--- Unplaced   document 01, 'What comes back': 'a call on one pair gives 0', the place of an outcome if it is refused
--- Written    a meaning that some pair has
--- Coded      docs/INTERFACE.md: 'Each meaning that some pair has has one code', of 32 bits, and the code's meaning is that one
+-- PairRefused   document 01, 'What comes back': an outcome of one pair is refused with 27 or 28, and 'a call on one pair gives 0'
+-- WithoutPair   docs/INTERFACE.md: an outcome that is refused is 43, at place 0
+-- Written       a meaning that some pair has
+-- Coded         docs/INTERFACE.md: 'Each meaning that some pair has has one code', of 32 bits, and the code's meaning is that one
 use Prim.Native.Nat.{ℕ, _<_}
 use mathlib.Core.Path.{_≡_}
+use mathlib.Core.Logic.{_⊎_}
 use Rattle.refusals.specs.Numbers.{Outcome}
 use Rattle.refusals.specs.Numbers.Outcome.{accepted, refused}
 use Rattle.meaning.specs.declared.Meaning.{Meaning}
@@ -12,9 +14,13 @@ use Rattle.pair.specs.Pairs.{spellingOf}
 use Rattle.codes.specs.Coding.{codeOf}
 use Rattle.codes.specs.Decoding.{decoded}
 
-abbrev pub Unplaced : {A : Type 0} → Outcome A → Type 0
-Unplaced (accepted a) = Unit
-Unplaced (refused number place) = place ≡ 0
+abbrev pub PairRefused : Outcome Meaning → Type 0
+PairRefused (accepted m) = Unit
+PairRefused (refused number place) = ((number ≡ 27) ⊎ (number ≡ 28)) × (place ≡ 0)
+
+abbrev pub WithoutPair : {A : Type 0} → Outcome A → Type 0
+WithoutPair (accepted a) = Unit
+WithoutPair (refused number place) = (number ≡ 43) × (place ≡ 0)
 
 pub record Written (m : Meaning) : Type 0 where
   pub first : ℕ

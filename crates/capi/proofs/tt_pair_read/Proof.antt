@@ -2,8 +2,8 @@ use mathlib.Core.Path.{sym, ap, _∙_, subst}
 use borrow.Author.Needs.{needs}
 use Rattle.meaning.specs.Answers.{toldMeaning}
 use Rattle.codes.specs.Coding.{codeOf}
-use Rattle.codelaws.specs.Statements.{Unplaced}
-use Rattle.codelaws.proofs.Unplaced.{pair-unplaced}
+use Rattle.codelaws.specs.Statements.{PairRefused}
+use Rattle.codelaws.proofs.Refused.{pair-refused}
 use Rattle.capi.specs.Answers.{packed}
 use Rattle.capi.proofs.Places.{unplaced-fits}
 use Rattle.capi.proofs.tt_pair_read.Statement.{statement}
@@ -11,7 +11,7 @@ use Rattle.capi.proofs.tt_pair_read.Tie as tie
 
 refused-requires : tie.Need-refused-requires
 refused-requires c κs =
-    unplaced-fits (subst Unplaced (sym (c .before .before .before .read .ensures) ∙ ap toldMeaning (c .before .x .given .1)) (pair-unplaced (c .before .before .before .before .args .first) (c .before .before .before .before .args .second)))
+    unplaced-fits (subst PairRefused (sym (c .before .before .before .read .ensures) ∙ ap toldMeaning (c .before .x .given .1)) (pair-refused (c .before .before .before .before .args .first) (c .before .before .before .before .args .second)) .1)
 
 returns : tie.Need-returns
 returns c =

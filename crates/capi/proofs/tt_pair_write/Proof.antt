@@ -5,9 +5,8 @@ use Rattle.meaning.specs.declared.Meaning.{Meaning}
 use Rattle.meaning.specs.Answers.{toldMeaning, toldBytes}
 use Rattle.pair.specs.Pairs.{spellingOf}
 use Rattle.codes.specs.Decoding.{after}
-use Rattle.codelaws.specs.Statements.{Unplaced}
-use Rattle.codelaws.proofs.Unplaced.{spelled-unplaced}
-use Rattle.codelaws.proofs.Laws.{decoded-unplaced}
+use Rattle.codelaws.specs.Statements.{WithoutPair}
+use Rattle.codelaws.proofs.Laws.{undecoded, unwritten}
 use Rattle.capi.specs.Answers.{packed, bytesNumber, written}
 use Rattle.capi.proofs.Places.{unplaced-fits}
 use Rattle.capi.proofs.tt_pair_write.Statement.{statement}
@@ -15,11 +14,11 @@ use Rattle.capi.proofs.tt_pair_write.Tie as tie
 
 refused-requires : tie.Need-refused-requires
 refused-requires c κs =
-    unplaced-fits (subst Unplaced (sym (c .before .before .before .meaning-of .ensures) ∙ ap toldMeaning (c .before .x .given .1)) (decoded-unplaced _))
+    unplaced-fits (subst WithoutPair (sym (c .before .before .before .meaning-of .ensures) ∙ ap toldMeaning (c .before .x .given .1)) (undecoded (c .before .before .before .before .args .code)) .1)
 
 refused-requires-2 : tie.Need-refused-requires-2
 refused-requires-2 c κs =
-    unplaced-fits (subst Unplaced (sym (c .before .before .before .write .ensures) ∙ ap toldBytes (c .before .x2 .given .1)) (spelled-unplaced (c .before .before .before .before .before .m .given .0 .0)))
+    unplaced-fits (subst WithoutPair (sym (c .before .before .before .write .ensures) ∙ ap toldBytes (c .before .x2 .given .1)) (unwritten (c .before .before .before .before .before .m .given .0 .0)) .1)
 
 returns : tie.Need-returns
 unfolding written
