@@ -1,7 +1,7 @@
 -- The pairs of a voice by number, and the bodies that are open at one.
 -- length-pairs        a voice of n bytes has n / 2 pairs
 -- pairs-from, pairs-cons, pairs-end   the pairs from a number on
--- note-event          a note is an event
+-- plain-event         what is plain is an event
 -- open-cons, open-end   what is open at a pair, from what is open behind it
 -- event-at, hlt-at, bad-at, hed-at, tal-at, def-at, end-at, cal-at   so for each kind of pair
 use Prim.Native.Nat.{ℕ, zero, suc, _+_, _*_, _/_, _<_, _≤_}
@@ -10,12 +10,13 @@ use mathlib.Core.Bool.{true}
 use mathlib.Core.List.{List, [], _∷_}
 use native.Mathlib.Numerals.{add-one}
 use native.Mathlib.Omega.{arith}
-use lib.ListN.{length, drop, drop-of-length-le}
+use lib.ListN.{length, drop, getD, drop-of-length-le}
 use lib.Seq.{drop-cons, drop-nil}
 use Rattle.kind.specs.declared.Kind.{Kind}
 use Rattle.kind.specs.declared.Kind.the-variants as Kind
 use Rattle.kind.specs.Kinds.{kindOf}
-use Rattle.bodies.specs.Voice.{pairs, pairAt, noteAt}
+use Rattle.kind.proofs.PlainEvents as plain
+use Rattle.bodies.specs.Voice.{pairs, pairAt, plainAt}
 use Rattle.bodies.specs.Bodies.{Event, byTal, byEnd, Body, done, event, repeat, phrase, call, inner, outer, joined, eventAt, bodies}
 use Rattle.bodies.specs.Places.{openAt}
 
@@ -46,9 +47,9 @@ pairs-cons bs i h =
 pub pairs-end : (bs : List ℕ) (i : ℕ) → length bs / 2 ≤ i → drop i (pairs bs) ≡ []
 pairs-end bs i h = drop-of-length-le (pairs bs) {i = i} (omega (arith, length-pairs bs))
 
-pub note-event : (bs : List ℕ) (i : ℕ) → noteAt bs i ≡ true → kindOf (pairAt bs i) ≡ Kind.Event
-unfolding noteAt pairAt
-note-event bs i e = rw e
+pub plain-event : (bs : List ℕ) (i : ℕ) → plainAt bs i ≡ true → kindOf (pairAt bs i) ≡ Kind.Event
+unfolding plainAt pairAt
+plain-event bs i e = plain.plain-event (getD bs (2 * i) 0) (getD bs (2 * i + 1) 0) e
 
 pub open-cons : (bs : List ℕ) (i : ℕ) → i < length bs / 2
     → openAt (pairs bs) i ≡ joined (eventAt i (pairAt bs i)) (kindOf (pairAt bs i)) (openAt (pairs bs) (i + 1))

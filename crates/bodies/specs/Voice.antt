@@ -1,15 +1,15 @@
 -- Document 01, 'MUS container' and 'Playing a voice': a voice is its stored pairs, and each pair is what it means.
 -- pairs    the pairs of a voice's bytes in stored order, each as its meaning, or 27 or 28
 -- pairAt   the pair with a number, counted from 0
--- noteAt   'First byte with low bits 00: a note'
-use Prim.Native.Nat.{ℕ, _+_, _*_, _%_}
+-- plainAt  a pair that passes tests which only events pass
+use Prim.Native.Nat.{ℕ, _+_, _*_}
 use mathlib.Core.Bool.{Bool}
 use mathlib.Core.List.{List, [], _∷_}
-use lib.Dec.{eqb}
 use lib.ListN.{getD}
 use Rattle.meaning.specs.declared.Meaning.{Meaning}
 use Rattle.refusals.specs.Numbers.{Outcome}
 use Rattle.pair.specs.Pairs.{meaningOf}
+use Rattle.kind.specs.Plain.{isPlain}
 
 unfoldable pub pairs : List ℕ → List (Outcome Meaning)
 pairs [] = []
@@ -19,5 +19,5 @@ pairs (a ∷ b ∷ bs) = meaningOf a b ∷ pairs bs
 unfoldable pub pairAt : List ℕ → ℕ → Outcome Meaning
 pairAt bs i = meaningOf (getD bs (2 * i) 0) (getD bs (2 * i + 1) 0)
 
-unfoldable pub noteAt : List ℕ → ℕ → Bool
-noteAt bs i = eqb (getD bs (2 * i) 0 % 4) 0
+unfoldable pub plainAt : List ℕ → ℕ → Bool
+plainAt bs i = isPlain (getD bs (2 * i) 0) (getD bs (2 * i + 1) 0)

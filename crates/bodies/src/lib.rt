@@ -3,7 +3,7 @@ ghost use mathlib.Core.Path.{_≡_};
 ghost use Prim.Native.Nat.{_+_, _*_, _<_};
 ghost use lib.ListN.{length};
 ghost use Rattle.kind.specs.Kinds.{kindOf, Numbered};
-ghost use Rattle.bodies.specs.Voice.{pairAt, noteAt};
+ghost use Rattle.bodies.specs.Voice.{pairAt, plainAt};
 ghost use Rattle.bodies.specs.Places.{IsPart};
 use kind::Kind;
 
@@ -15,13 +15,17 @@ pub fn kind_at(voice: &[u8], i: usize) -> Kind
     kind::kind_of(voice[2 * i], voice[2 * i + 1])
 }
 
-// internal: whether pair number i of a voice's bytes is a note, and so an event. Loops over pairs ask this first: most pairs are notes, and
-// a yes or no costs less than a kind.
-pub fn note_at(voice: &[u8], i: usize) -> bool
+// internal: whether pair number i of a voice's bytes passes tests that only events pass. Loops over pairs ask this first.
+pub fn plain_at(voice: &[u8], i: usize) -> bool
     requires { ⌜ 2 * i + 1 < length (now voice) ⌝ }
-    ensures { λ r. ⌜ r ≡ noteAt (now (voice .entry)) i ⌝ }
+    ensures { λ r. ⌜ r ≡ plainAt (now (voice .entry)) i ⌝ }
 {
-    voice[2 * i] % 4 == 0
+    // notes, the commonest, by the first byte alone
+    let first = voice[2 * i];
+    if first % 4 == 0 {
+        return true;
+    }
+    kind::is_plain(first, voice[2 * i + 1])
 }
 
 // What a pair is to the bodies: an event, a HED with its number of passes, a DEF or a CAL with its number, or a TAL or END.
@@ -38,7 +42,7 @@ pub fn part_at(voice: &[u8], i: usize) -> Part
     requires { ⌜ 2 * i + 1 < length (now voice) ⌝ }
     ensures { λ r. ⌜ IsPart (now (voice .entry)) i r ⌝ }
 {
-    if note_at(voice, i) {
+    if plain_at(voice, i) {
         return Part::Plain;
     }
     match kind_at(voice, i) {

@@ -1,3 +1,4 @@
 pub mod Kinds
 pub mod Bytes
 pub mod Laws
+pub mod Plain

@@ -2,8 +2,10 @@
 ghost use mathlib.Core.Path.{_≡_};
 ghost use Rattle.pair.specs.Pairs.{meaningOf};
 ghost use Rattle.kind.specs.Kinds.{kindOf};
+ghost use Rattle.kind.specs.Plain.{isPlain};
 
 mod others;
+mod plain;
 mod seconds;
 
 // An event, one of the pairs that make bodies, HLT, or a pair that is refused, with the number 27 or 28. HLT is an event too;
@@ -30,5 +32,20 @@ pub fn kind_of(first: u8, second: u8) -> Kind
         seconds::second_kind(second)
     } else {
         others::other_kind(first, second)
+    }
+}
+
+// internal: tests of a pair's two bytes that only events pass, and most events do. Loops over pairs ask this first: a yes or no costs less than a kind, which comes back
+// through memory.
+pub fn is_plain(first: u8, second: u8) -> bool
+    ensures { λ r. ⌜ r ≡ isPlain first second ⌝ }
+{
+    if first % 4 == 0 {
+        return true;
+    }
+    if first == 1 {
+        plain::plain_second(second % 16)
+    } else {
+        plain::plain_first(first)
     }
 }

@@ -29,12 +29,12 @@ pub struct Place {
     pub depth: usize,
 }
 
-// internal: pair number i as what it is to the walk. Notes, the commonest, come first.
+// internal: pair number i as what it is to the walk. Plain events, the commonest, come first.
 pub fn next_at(voice: &[u8], i: usize) -> Next
     requires { ⌜ 2 * i + 1 < length (now voice) ⌝ }
     ensures { λ r. ⌜ (r ≡ nextOf (kindOf (pairAt (now (voice .entry)) i))) × Bounded r ⌝ }
 {
-    if bodies::note_at(voice, i) {
+    if bodies::plain_at(voice, i) {
         return Next::Event;
     }
     match bodies::kind_at(voice, i) {

@@ -1,9 +1,9 @@
 -- The two passes over the stored pairs, a pair at a time.
 -- is-last                                what the code asks for the last pair
--- pair-failed, pair-passed, note-passed, pair-end   27 to 29
--- asked-both                             a note that is not the last, as the code asks it
+-- pair-failed, pair-passed, plain-passed, pair-end   27 to 29
+-- asked-both                             an event that is not the last, as the code asks it
 -- held, nesting, Seen, seen-start        what is open and closed so far, as the code keeps it
--- step-off, step-on, step-closes, step-few, note-on, nest-end   30 and 31
+-- step-off, step-on, step-closes, step-few, plain-on, nest-end   30 and 31
 -- number-few, none-held                  what the cells are asked for, and hold at first
 use Prim.Native.Nat.{ℕ, _+_, _/_, _<_, _≤_}
 use mathlib.Core.Path.{_≡_, refl, sym, _∙_, subst, fun-ext}
@@ -53,9 +53,9 @@ module _ (bs : List ℕ) (i : ℕ) (h : i < length bs / 2) where
   unfolding firstAt pairsTests
   pair-passed e = rw (pairs-cons bs i h, is-last, e)
 
-  -- a note that is not the last
-  pub note-passed : kindOf (pairAt bs i) ≡ Event → eqb (i + 1) (length bs / 2) ≡ false → firstAt i (pairsTests (drop i (pairs bs))) ≡ firstAt (i + 1) (pairsTests (drop (i + 1) (pairs bs)))
-  note-passed k l = pair-passed (rw (k, l))
+  -- an event that is not the last
+  pub plain-passed : kindOf (pairAt bs i) ≡ Event → eqb (i + 1) (length bs / 2) ≡ false → firstAt i (pairsTests (drop i (pairs bs))) ≡ firstAt (i + 1) (pairsTests (drop (i + 1) (pairs bs)))
+  plain-passed k l = pair-passed (rw (k, l))
 
 pub asked-both : (s t : Bool) → s && not t ≡ true → (s ≡ true) × (t ≡ false)
 asked-both s t e = let p = both s (not t) e in (p .0, not-true t (p .1))
@@ -170,9 +170,9 @@ module _ (bs cells : List ℕ) (o : Open) (i : ℕ) (s : Seen bs cells o i) (h :
   pub step-few : {r : Step} (p : Open) (k : ℕ) → r ≡ Closes p k → Stepped y o (held cells n) r → k < 24
   step-few p k q g = subst (Stepped y o (held cells n)) q g .3
 
--- a note changes nothing
-pub note-on : (bs cells : List ℕ) (o : Open) (i : ℕ) → Seen bs cells o i → i < length bs / 2 → kindOf (pairAt bs i) ≡ Event → Seen bs cells o (i + 1)
-note-on bs cells o i s h k = step-on bs cells o i s h (sym k) refl o refl (event-on o)
+-- a plain event changes nothing
+pub plain-on : (bs cells : List ℕ) (o : Open) (i : ℕ) → Seen bs cells o i → i < length bs / 2 → kindOf (pairAt bs i) ≡ Event → Seen bs cells o (i + 1)
+plain-on bs cells o i s h k = step-on bs cells o i s h (sym k) refl o refl (event-on o)
 
 pub none-held : held (blank 24) ≡ noneClosed
 none-held = fun-ext (λ k. rw (blank-at 24 k))

@@ -25,8 +25,8 @@ pub fn pairs_finding(voice: &[u8]) -> Finding
     let n = voice.len() / 2;
     let mut i = 0;
     while i < n {
-        let note = bodies::note_at(voice, i);
-        if note & (i + 1 != n) {
+        let plain = bodies::plain_at(voice, i);
+        if plain & (i + 1 != n) {
             i += 1;
         } else {
             let kind = bodies::kind_at(voice, i);
@@ -55,7 +55,7 @@ pub fn structure_finding(voice: &[u8]) -> Finding
     };
     let mut i = 0;
     while i < n {
-        if bodies::note_at(voice, i) {
+        if bodies::plain_at(voice, i) {
             i += 1;
         } else {
             let kind = bodies::kind_at(voice, i);

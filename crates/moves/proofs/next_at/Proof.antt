@@ -1,8 +1,8 @@
--- `moves::next_at` meets its contract: the pair's kind, which a note need not be asked for.
+-- `moves::next_at` meets its contract: the pair's kind, which a plain event need not be asked for.
 use borrow.Author.Needs.{needs}
 use mathlib.Core.Path.{sym, ap, subst, _∙_}
 use Rattle.kind.specs.Kinds.{Numbered}
-use Rattle.bodies.proofs.Stored.{note-event}
+use Rattle.bodies.proofs.Stored.{plain-event}
 use Rattle.moves.specs.Moves.{nextOf}
 use Rattle.moves.proofs.next_at.Statement.{statement}
 use Rattle.moves.proofs.next_at.Tie as tie
@@ -12,7 +12,7 @@ next-at-spec =
     tie.close
     (tie.spec
     (λ c κs. search needs)
-    (λ c. (ap nextOf (sym (note-event _ _ (sym (c .before .note-at .ensures) ∙ c .if1 .taken))), tt))
+    (λ c. (ap nextOf (sym (plain-event _ _ (sym (c .before .plain-at .ensures) ∙ c .if1 .taken))), tt))
     (λ c κs. search needs)
     (λ c. search needs)
     (λ c. search needs)

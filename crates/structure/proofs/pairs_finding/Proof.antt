@@ -5,9 +5,9 @@ use mathlib.Core.Path.{_≡_, refl, sym, _∙_}
 use native.Mathlib.Omega.{arith}
 use lib.ListN.{length, drop}
 use Rattle.bodies.specs.Voice.{pairs}
-use Rattle.bodies.proofs.Stored.{note-event}
+use Rattle.bodies.proofs.Stored.{plain-event}
 use Rattle.structure.specs.Findings.{firstAt, pairsTests, pairsFinding}
-use Rattle.structure.proofs.Passes.{pair-failed, pair-passed, note-passed, asked-both, pair-end}
+use Rattle.structure.proofs.Passes.{pair-failed, pair-passed, plain-passed, asked-both, pair-end}
 use Rattle.structure.proofs.pairs_finding.Statement.{statement}
 use Rattle.structure.proofs.pairs_finding.Tie as tie
 
@@ -42,7 +42,7 @@ loop-again c =
     let taken = c .before .before .loop-test .taken in
     let both = asked-both _ _ (c .if1 .taken) in (
       omega (arith, taken),
-      sym (note-passed _ _ taken (note-event _ _ (sym (c .before .note-at .ensures) ∙ both .0)) (both .1)) ∙ c .before .before .before .loop .inv .1,
+      sym (plain-passed _ _ taken (plain-event _ _ (sym (c .before .plain-at .ensures) ∙ both .0)) (both .1)) ∙ c .before .before .before .loop .inv .1,
     )
 
 pub pairs-finding-spec : {M : Type 1} → statement M

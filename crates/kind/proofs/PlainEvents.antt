@@ -1,0 +1,62 @@
+-- What is plain is an event.
+-- Others, not-among   a number that is none of some, as the last arm of a match knows it
+-- plain-event         so for every two bytes
+use Prim.Native.Nat.{ℕ, _%_, _<_}
+use mathlib.Core.Path.{_≡_, refl, sym, _∙_}
+use mathlib.Core.Bool.{Bool, true, false, not, _&&_, _||_}
+use mathlib.Core.List.{List, [], _∷_}
+use lib.Dec.{eqb, ltb}
+use borrow.Author.Tests.{eqb-true, ne-eqb, ltb-true, not-true}
+use Rattle.refusals.specs.Tests.{pick}
+use Rattle.refusals.specs.Laws.{both}
+use Rattle.meaning.specs.Every.{every-at, implied}
+use Rattle.command.specs.Codes.{secondOutcome}
+use Rattle.command.specs.Others.{otherOutcome}
+use Rattle.pair.specs.Pairs.{meaningOf}
+use Rattle.kind.specs.declared.Kind.the-variants.{Event}
+use Rattle.kind.specs.Kinds.{kindOf}
+use Rattle.kind.specs.Bytes.{secondKind}
+use Rattle.kind.specs.Laws.{sameKind, same-kind}
+use Rattle.kind.specs.Plain.{among, plainSecond, apart, plainFirst, isPlain}
+use Rattle.kind.proofs.Rows.{second-as, por-event, rest-event}
+
+abbrev pub Others : Type 0 → List ℕ → ℕ → Type 0
+Others T [] k = T
+Others T (x ∷ xs) k = Others (T × (k ≡ x → ⊥)) xs k
+
+known : (T : Type 0) (xs : List ℕ) (k : ℕ) → Others T xs k → T
+known T [] k o = o
+known T (x ∷ xs) k o = known (T × (k ≡ x → ⊥)) xs k o .0
+
+pub not-among : (T : Type 0) (xs : List ℕ) (k : ℕ) → Others T xs k → among xs k ≡ false
+not-among T [] k o = refl
+not-among T (x ∷ xs) k o = rw (ne-eqb k x (known (T × (k ≡ x → ⊥)) xs k o .1)) (not-among (T × (k ≡ x → ⊥)) xs k o)
+
+second-event : (b : ℕ) → b < 256 → plainSecond (b % 16) ≡ true → kindOf (secondOutcome b) ≡ Event
+second-event b h e =
+    sym (second-as b h)
+    ∙ same-kind (secondKind b) Event
+    (implied (plainSecond (b % 16)) (sameKind (secondKind b) Event) (every-at (λ k. not (plainSecond (k % 16)) || sameKind (secondKind k) Event) 256 tt b h) e)
+
+module _ (a b : ℕ) (ha : a < 256) (hb : b < 256) where
+  first-event : plainFirst a ≡ true → kindOf (otherOutcome a b) ≡ Event
+  first-event e = go (eqb (a % 4) 2) refl e
+    where
+      go : (t : Bool) → eqb (a % 4) 2 ≡ t → pick t (not (among apart a)) (eqb (a % 4) 3) ≡ true → kindOf (otherOutcome a b) ≡ Event
+      go true p q = rest-event a b ha hb (eqb-true (a % 4) 2 p) (not-true (among apart a) q)
+      go false p q = por-event a b ha (eqb-true (a % 4) 3 q)
+
+  bytes-event : pick (eqb (a % 4) 0) true (pick (eqb a 1) (plainSecond (b % 16)) (plainFirst a)) ≡ true → kindOf (meaningOf a b) ≡ Event
+  bytes-event e = go (eqb (a % 4) 0) refl (eqb a 1) refl e
+    where
+      go : (n : Bool) → eqb (a % 4) 0 ≡ n → (o : Bool) → eqb a 1 ≡ o → pick n true (pick o (plainSecond (b % 16)) (plainFirst a)) ≡ true → kindOf (meaningOf a b) ≡ Event
+      go true p o q r = rw p
+      go false p true q r = rw (p, q) (second-event b hb r)
+      go false p false q r = rw (p, q) (first-event r)
+
+pub plain-event : (a b : ℕ) → isPlain a b ≡ true → kindOf (meaningOf a b) ≡ Event
+plain-event a b e =
+    let tests = pick (eqb (a % 4) 0) true (pick (eqb a 1) (plainSecond (b % 16)) (plainFirst a)) in
+    let two = both (ltb a 256 && ltb b 256) tests e in
+    let bytes = both (ltb a 256) (ltb b 256) (two .0) in
+    bytes-event a b (ltb-true a 256 (bytes .0)) (ltb-true b 256 (bytes .1)) (two .1)
