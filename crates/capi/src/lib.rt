@@ -15,6 +15,7 @@ use events::Listed;
 use meaning::Reading;
 use meaning::Spelling;
 use sid::SongSpeed;
+use sid::Tested;
 
 mod answers;
 mod songs;
@@ -25,9 +26,9 @@ mod tunes;
 pub extern "C" fn tt_sid_read(file: &[u8]) -> u64
     ensures { λ r. ⌜ r ≡ packed noValue (sidOutcome (now (file .entry))) ⌝ }
 {
-    match sid::read(file) {
-        sid::Reading::Refused(x) => answers::refused(x),
-        sid::Reading::Accepted(_) => 0,
+    match sid::test(file) {
+        Tested::Refused(x) => answers::refused(x),
+        Tested::Passed(_, _) => 0,
     }
 }
 
@@ -53,9 +54,9 @@ pub extern "C" fn tt_sid_load(file: &[u8], memory: &mut [u8]) -> u64
     ensures answer { λ r. ⌜ r ≡ packed noValue (loadOutcome (now (file .entry)) (length (now (memory .entry)))) ⌝ }
     ensures cells { λ _. ⌜ now (memory .exit) ≡ memoryAfter (now (file .entry)) (now (memory .entry)) ⌝ }
 {
-    match sid::load(file, memory) {
-        sid::Reading::Refused(x) => answers::refused(x),
-        sid::Reading::Accepted(_) => 0,
+    match sid::put_payload(file, memory) {
+        Tested::Refused(x) => answers::refused(x),
+        Tested::Passed(_, _) => 0,
     }
 }
 

@@ -24,7 +24,7 @@ use Rattle.sidrefusals.specs.HeaderTests.{one, two, isRsid, headerTests}
 use Rattle.sidrefusals.specs.PayloadTests.{payloadTests}
 use Rattle.sid.specs.Answers.{sidOutcome}
 use Rattle.sid.specs.Laws.{header}
-use Rattle.sid.proofs.Outcomes.{by-parts}
+use Rattle.sid.proofs.Outcomes.{first-parts}
 
 -- the fields with another size
 abbrev resized : Fields → ℕ → Fields
@@ -107,8 +107,9 @@ too-long f x o h = go (addressed x) refl
 -- a long file is refused by its header or with 10
 by-long : (f : List ℕ) (v : Verdict) → firstOf (headerTests (fieldsOf f)) ≡ v → 65663 ≤ fieldsOf f .size
     → sidOutcome f ≡ guarded (later v (Failed 10)) (accepted (header f))
-by-long f Passed e h = by-parts f (fieldsOf f) (payloadOf f (fieldsOf f)) refl refl ∙ rw (e, too-long f (fieldsOf f) (offset-passed (fieldsOf f) e) h)
-by-long f (Failed m) e h = by-parts f (fieldsOf f) (payloadOf f (fieldsOf f)) refl refl ∙ rw e
+unfolding sidOutcome
+by-long f Passed e h = rw (first-parts f (fieldsOf f) (payloadOf f (fieldsOf f)) refl refl, e, too-long f (fieldsOf f) (offset-passed (fieldsOf f) e) h)
+by-long f (Failed m) e h = rw (first-parts f (fieldsOf f) (payloadOf f (fieldsOf f)) refl refl, e)
 
 either : {A : Type 0} (v : Verdict) (a b : Outcome A) → guarded (later v (Failed 10)) a ≡ guarded (later v (Failed 10)) b
 either Passed a b = refl

@@ -2,6 +2,7 @@
 -- header                         what a file says of itself, accepted or not
 -- none-accepted, accepted-none   'accepted exactly when no listed refusal applies'
 -- told-once                      no two answers are told alike: an equation of `told` leaves the answer no freedom
+-- read-headed, load-headed       what tests come to, with the header made, is what the call comes to
 -- accepted-header                the header of an accepted file
 -- accepted-fits                  its payload lies within the 65,536 cells
 -- payload-whole                  its payload has as many bytes as the header says
@@ -20,6 +21,8 @@ use borrow.Author.Tests.{ltb-false, eqb-true, eq-eqb}
 use Rattle.refusals.specs.Numbers.{Outcome}
 use Rattle.refusals.specs.Numbers.Outcome.{accepted, refused}
 use Rattle.refusals.specs.Numbers.Reason.{memorySize}
+use Rattle.refusals.specs.declared.Verdict.{Verdict}
+use Rattle.refusals.specs.declared.Verdict.the-variants.{Passed, Failed}
 use Rattle.refusals.specs.Tests.{None, test, firstOf, guarded, pick}
 use Rattle.refusals.specs.Laws.{passed-none, none-passed, none-append, guarded-accepted, refused-once}
 use Rattle.fields.specs.Parts.{beforeZero, put}
@@ -32,15 +35,29 @@ use Rattle.sid.specs.declared.Header.{Header}
 use Rattle.sid.specs.Header.{headerOf, textAt, spanAt}
 use Rattle.sid.specs.declared.Reading.{Reading}
 use Rattle.sid.specs.declared.Reading.the-variants.{Accepted, Refused}
-use Rattle.sid.specs.Answers.{told, sidOutcome}
+use Rattle.sid.specs.Answers.{told, sidOutcome, Passing, passing, testedOutcome, headed}
 use Rattle.sid.specs.Pieces.{partOf}
-use Rattle.sid.specs.Loading.{loadOutcome, filled, memoryAfter}
+use Rattle.sid.specs.Loading.{loadOutcome, putOutcome, filled, memoryAfter}
 
 pub told-once : (a b : Reading) → told a ≡ told b → a ≡ b
 told-once (Accepted g) (Accepted h) e = let same : g ≡ h = cc in rw same
 told-once (Accepted g) (Refused y) e = let z : _≡_ {A = ℕ} 0 1 = cc in absurd (omega arith)
 told-once (Refused x) (Accepted h) e = let z : _≡_ {A = ℕ} 0 1 = cc in absurd (omega arith)
 told-once (Refused x) (Refused y) e = ap Refused (refused-once {X = Header} x y e)
+
+headed-guarded : (f : List ℕ) (v : Verdict) (o : Outcome Passing) → headed f (guarded v o) ≡ guarded v (headed f o)
+headed-guarded f Passed o = refl
+headed-guarded f (Failed n) o = refl
+
+pub read-headed : (f : List ℕ) (o : Outcome Passing) → o ≡ testedOutcome f → headed f o ≡ sidOutcome f
+unfolding testedOutcome sidOutcome
+read-headed f o e = ap (headed f) e ∙ headed-guarded f (firstOf (sidTests f)) (accepted (passing (fieldsOf f) (payloadOf f (fieldsOf f))))
+
+pub load-headed : (f : List ℕ) (cells : ℕ) (o : Outcome Passing) → o ≡ putOutcome f cells → headed f o ≡ loadOutcome f cells
+unfolding putOutcome loadOutcome
+load-headed f cells o e =
+    let size = firstOf (test memorySize (not (eqb cells 65536)) ∷ []) in
+    ap (headed f) e ∙ headed-guarded f size (testedOutcome f) ∙ ap (guarded size) (read-headed f (testedOutcome f) refl)
 
 abbrev pub header : List ℕ → Header
 header f = headerOf f (fieldsOf f) (payloadOf f (fieldsOf f))

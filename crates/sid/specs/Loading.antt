@@ -1,5 +1,6 @@
 -- Document 01, 'What comes back' and 'PSID and RSID': loading a file into memory.
 -- loadOutcome   '40, 41 and 42 are tested before the file': 40 where memory is not 65,536 bytes, then the file's own
+-- putOutcome    the same with the fields and the payload that the header is made of
 -- filled        what an outcome puts into memory
 -- memoryAfter   'Loading leaves every cell but the payload's as it stood'; a refusal 'changes no lent memory'
 use Prim.Native.Nat.{ℕ}
@@ -13,11 +14,14 @@ use Rattle.refusals.specs.Numbers.Reason.{memorySize}
 use Rattle.refusals.specs.Tests.{test, firstOf, guarded}
 use Rattle.fields.specs.Parts.{put}
 use Rattle.sid.specs.declared.Header.{Header}
-use Rattle.sid.specs.Answers.{sidOutcome}
+use Rattle.sid.specs.Answers.{sidOutcome, Passing, testedOutcome}
 use Rattle.sid.specs.Pieces.{partOf}
 
 unfoldable pub loadOutcome : List ℕ → ℕ → Outcome Header
 loadOutcome f cells = guarded (firstOf (test memorySize (not (eqb cells 65536)) ∷ [])) (sidOutcome f)
+
+unfoldable pub putOutcome : List ℕ → ℕ → Outcome Passing
+putOutcome f cells = guarded (firstOf (test memorySize (not (eqb cells 65536)) ∷ [])) (testedOutcome f)
 
 abbrev pub filled : Outcome Header → List ℕ → List ℕ → List ℕ
 filled (accepted h) f m = put m (h .load) (partOf f (h .payload))

@@ -2,12 +2,13 @@
 // every number; none has a requires.
 ghost use mathlib.Core.Path.{_≡_};
 ghost use lib.ListN.{length};
-ghost use Rattle.sid.specs.Answers.{told, sidOutcome};
-ghost use Rattle.sid.specs.Loading.{loadOutcome, memoryAfter};
+ghost use Rattle.sid.specs.Answers.{told, sidOutcome, toldTested, testedOutcome};
+ghost use Rattle.sid.specs.Loading.{loadOutcome, putOutcome, memoryAfter};
 ghost use Rattle.sid.specs.Speed.{toldSpeed, speedOutcome};
 ghost use Rattle.sid.specs.Pieces.{partOf, titleIn, authorIn, releasedIn, payloadIn};
 use refusals::Refusal;
 use refusals::Verdict;
+use sidheader::Fields;
 
 mod accepted;
 mod pieces;
@@ -62,31 +63,69 @@ pub enum Reading {
     Refused(Refusal),
 }
 
+// What the tests of a file come to: what its header is made of, or the first refusal that applies.
+pub enum Tested {
+    Passed(Fields, sidheader::Payload),
+    Refused(Refusal),
+}
+
 // The answer to a song's number: its bit of the speed field.
 pub enum SongSpeed {
     Bit(u32),
     Refused(Refusal),
 }
 
-// Reads a file: its header, or the first refusal that applies.
-pub fn read(file: &[u8]) -> Reading
-    ensures { λ r. ⌜ told r ≡ sidOutcome (now (file .entry)) ⌝ }
+// internal: tests a file, and does not look for the ends of its texts: only the header needs them.
+pub fn test(file: &[u8]) -> Tested
+    ensures { λ r. ⌜ toldTested r ≡ testedOutcome (now (file .entry)) ⌝ }
 {
     // the first test by itself: past it the compiler knows that the header is there, and leaves out a check at each byte
     if file.len() < 118 {
-        return Reading::Refused(Refusal::unplaced(refusals::TOO_SHORT));
+        return Tested::Refused(Refusal::unplaced(refusals::TOO_SHORT));
     }
     let x = sidheader::read_fields(file);
     let first = sidrefusals::test_header(x);
     match first {
-        Verdict::Failed(number) => Reading::Refused(Refusal::unplaced(number)),
+        Verdict::Failed(number) => Tested::Refused(Refusal::unplaced(number)),
         Verdict::Passed => {
             let p = sidheader::payload_of(file, x);
             let second = sidrefusals::test_payload(x, p);
             match second {
-                Verdict::Failed(number) => Reading::Refused(Refusal::unplaced(number)),
-                Verdict::Passed => Reading::Accepted(accepted::header_of(file, x, p)),
+                Verdict::Failed(number) => Tested::Refused(Refusal::unplaced(number)),
+                Verdict::Passed => Tested::Passed(x, p),
             }
+        }
+    }
+}
+
+// Reads a file: its header, or the first refusal that applies.
+pub fn read(file: &[u8]) -> Reading
+    ensures { λ r. ⌜ told r ≡ sidOutcome (now (file .entry)) ⌝ }
+{
+    let answer = test(file);
+    match answer {
+        Tested::Refused(x) => Reading::Refused(x),
+        Tested::Passed(x, p) => Reading::Accepted(accepted::header_of(file, x, p)),
+    }
+}
+
+// internal: what load does, without the header.
+pub fn put_payload(file: &[u8], memory: &mut [u8]) -> Tested
+    ensures answer { λ r. ⌜ toldTested r ≡ putOutcome (now (file .entry)) (length (now (memory .entry))) ⌝ }
+    ensures cells { λ _. ⌜ now (memory .exit) ≡ memoryAfter (now (file .entry)) (now (memory .entry)) ⌝ }
+{
+    if memory.len() != 65536 {
+        return Tested::Refused(Refusal::unplaced(refusals::MEMORY_SIZE));
+    }
+    let answer = test(file);
+    match answer {
+        Tested::Refused(x) => Tested::Refused(x),
+        Tested::Passed(x, p) => {
+            let from = p.from;
+            let len = p.len;
+            let at = p.load as usize;
+            fields::copy_to(fields::part(file, from, len), memory, at);
+            Tested::Passed(x, p)
         }
     }
 }
@@ -96,19 +135,10 @@ pub fn load(file: &[u8], memory: &mut [u8]) -> Reading
     ensures answer { λ r. ⌜ told r ≡ loadOutcome (now (file .entry)) (length (now (memory .entry))) ⌝ }
     ensures cells { λ _. ⌜ now (memory .exit) ≡ memoryAfter (now (file .entry)) (now (memory .entry)) ⌝ }
 {
-    if memory.len() != 65536 {
-        return Reading::Refused(Refusal::unplaced(refusals::MEMORY_SIZE));
-    }
-    let answer = read(file);
+    let answer = put_payload(file, memory);
     match answer {
-        Reading::Refused(x) => Reading::Refused(x),
-        Reading::Accepted(h) => {
-            let from = h.payload.from;
-            let len = h.payload.len;
-            let at = h.load as usize;
-            fields::copy_to(fields::part(file, from, len), memory, at);
-            Reading::Accepted(h)
-        }
+        Tested::Refused(x) => Reading::Refused(x),
+        Tested::Passed(x, p) => Reading::Accepted(accepted::header_of(file, x, p)),
     }
 }
 
@@ -116,15 +146,15 @@ pub fn load(file: &[u8], memory: &mut [u8]) -> Reading
 pub fn speed_of_song(file: &[u8], song: u64) -> SongSpeed
     ensures { λ r. ⌜ toldSpeed r ≡ speedOutcome (now (file .entry)) song ⌝ }
 {
-    let answer = read(file);
+    let answer = test(file);
     match answer {
-        Reading::Refused(x) => SongSpeed::Refused(x),
-        Reading::Accepted(h) => {
-            let songs = h.songs as u64;
+        Tested::Refused(x) => SongSpeed::Refused(x),
+        Tested::Passed(x, _) => {
+            let songs = x.songs as u64;
             if (song == 0) | (songs < song) {
                 SongSpeed::Refused(Refusal::unplaced(refusals::NO_SUCH_SONG))
             } else {
-                SongSpeed::Bit(song::speed_bit(h.speed, song))
+                SongSpeed::Bit(song::speed_bit(x.speed, song))
             }
         }
     }

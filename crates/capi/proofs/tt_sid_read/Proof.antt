@@ -1,6 +1,7 @@
 use mathlib.Core.Path.{sym, ap, _∙_, subst}
 use borrow.Author.Needs.{needs}
-use Rattle.sid.specs.Answers.{told}
+use Rattle.sid.specs.Answers.{toldTested}
+use Rattle.sid.specs.Laws.{read-headed}
 use Rattle.capi.specs.Answers.{packed, noValue}
 use Rattle.capi.proofs.Places.{Low, low-fits, sid-low}
 use Rattle.capi.proofs.tt_sid_read.Statement.{statement}
@@ -8,14 +9,14 @@ use Rattle.capi.proofs.tt_sid_read.Tie as tie
 
 refused-requires : tie.Need-refused-requires
 refused-requires c κs =
-    let low = subst Low (sym (c .before .before .before .read .ensures) ∙ ap told (c .before .x .given .1)) (sid-low _) in
-    low-fits low
+    low-fits (subst Low (sym (read-headed _ _ (ap toldTested (sym (c .before .x .given .1)) ∙ c .before .before .before .test .ensures))) (sid-low _))
 
 returns : tie.Need-returns
-returns c = c .refused .ensures ∙ ap (packed noValue) (ap told (sym (c .before .before .x .given .1)) ∙ c .before .before .before .before .read .ensures)
+returns c =
+    c .refused .ensures ∙ ap (packed noValue) (read-headed _ _ (ap toldTested (sym (c .before .before .x .given .1)) ∙ c .before .before .before .before .test .ensures))
 
 returns-2 : tie.Need-returns-2
-returns-2 c = ap (packed noValue) (ap told (sym (c .enum-told .given .1)) ∙ c .before .before .read .ensures)
+returns-2 c = ap (packed noValue) (read-headed _ _ (ap toldTested (sym (c .enum-told .given .1)) ∙ c .before .before .test .ensures))
 
 pub tt-sid-read-spec : {M : Type 1} → statement M
 tt-sid-read-spec = tie.close (tie.spec (λ c κs. search needs) (λ c. search needs) refused-requires (λ c. search needs) returns returns-2)

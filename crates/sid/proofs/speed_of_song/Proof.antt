@@ -2,13 +2,13 @@
 use mathlib.Core.Path.{sym, ap, _∙_}
 use denote.Ref.{now}
 use borrow.Author.Needs.{needs}
-use Rattle.sid.specs.Answers.{told}
+use Rattle.sid.specs.Answers.{toldTested}
 use Rattle.sid.proofs.Outcomes.{song-refused, no-song, song-bit}
 use Rattle.sid.proofs.speed_of_song.Statement.{statement}
 use Rattle.sid.proofs.speed_of_song.Tie as tie
 
-read-requires : tie.Need-read-requires
-read-requires c κs = search needs
+test-requires : tie.Need-test-requires
+test-requires c κs = search needs
 
 enum-known-answer : tie.Need-enum-known-answer
 enum-known-answer c = search needs
@@ -28,26 +28,26 @@ speed-bit-requires c κs = search needs
 returns : tie.Need-returns
 returns c =
     let a = c .before .before .before .before .before .args in
-    let read = c .before .before .before .read in
-    song-refused (now (a .file)) (a .song) _ _ (sym (ap told (c .before .answer .given .1)) ∙ read .ensures)
+    let tested = c .before .before .before .test in
+    song-refused (now (a .file)) (a .song) _ _ (sym (ap toldTested (c .before .answer .given .1)) ∙ tested .ensures)
 
 returns-2 : tie.Need-returns-2
 returns-2 c =
     let a = c .before .before .before .before .before .before .before .before .args in
-    let read = c .before .before .before .before .before .before .read in
-    rw (c .unplaced .ensures) (no-song (now (a .file)) (a .song) _ (sym (ap told (c .before .before .before .before .answer2 .given .1)) ∙ read .ensures) (c .before .if1 .taken))
+    let tested = c .before .before .before .before .before .before .test in
+    rw (c .unplaced .ensures) (no-song (now (a .file)) (a .song) _ _ (sym (ap toldTested (c .before .before .before .before .answer2 .given .1)) ∙ tested .ensures) (c .before .if1 .taken))
 
 returns-3 : tie.Need-returns-3
 returns-3 c =
     let a = c .before .before .before .before .before .before .before .before .args in
-    let read = c .before .before .before .before .before .before .read in
-    song-bit (now (a .file)) (a .song) _ _ (sym (ap told (c .before .before .before .before .answer2 .given .1)) ∙ read .ensures) (c .before .if1 .left) (c .speed-bit .ensures)
+    let tested = c .before .before .before .before .before .before .test in
+    song-bit (now (a .file)) (a .song) _ _ (sym (ap toldTested (c .before .before .before .before .answer2 .given .1)) ∙ tested .ensures) _ (c .before .if1 .left) (c .speed-bit .ensures)
 
 pub speed-of-song-spec : {M : Type 1} → statement M
 speed-of-song-spec =
     tie.close
     (tie.spec
-    read-requires
+    test-requires
     enum-known-answer
     enum-known-answer-2
     cast-songs
