@@ -14,6 +14,9 @@ mod accepted;
 mod pieces;
 mod song;
 
+// The bytes of a version 1 header: no shorter file is accepted.
+const SHORTEST: usize = 118;
+
 // What the file's first four bytes say it is.
 pub enum Kind {
     Psid,
@@ -80,7 +83,7 @@ pub fn test(file: &[u8]) -> Tested
     ensures { λ r. ⌜ toldTested r ≡ testedOutcome (now (file .entry)) ⌝ }
 {
     // the first test by itself: past it the compiler knows that the header is there, and leaves out a check at each byte
-    if file.len() < 118 {
+    if file.len() < SHORTEST {
         return Tested::Refused(Refusal::unplaced(refusals::TOO_SHORT));
     }
     let x = sidheader::read_fields(file);
@@ -102,6 +105,10 @@ pub fn test(file: &[u8]) -> Tested
 pub fn read(file: &[u8]) -> Reading
     ensures { λ r. ⌜ told r ≡ sidOutcome (now (file .entry)) ⌝ }
 {
+    // as in test: past it the compiler knows that the texts are there, and unrolls the search for their ends
+    if file.len() < SHORTEST {
+        return Reading::Refused(Refusal::unplaced(refusals::TOO_SHORT));
+    }
     let answer = test(file);
     match answer {
         Tested::Refused(x) => Reading::Refused(x),
