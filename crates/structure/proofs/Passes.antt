@@ -1,7 +1,6 @@
 -- The two passes over the stored pairs, a pair at a time.
 -- is-last                                what the code asks for the last pair
 -- pair-failed, pair-passed, plain-passed, pair-end   27 to 29
--- asked-both                             an event that is not the last, as the code asks it
 -- held, nesting, Seen, seen-start        what is open and closed so far, as the code keeps it
 -- step-off, step-on, step-closes, step-few, plain-on, nest-end   30 and 31
 -- number-few, none-held                  what the cells are asked for, and hold at first
@@ -12,10 +11,9 @@ use mathlib.Core.List.{List, []}
 use native.Mathlib.Omega.{arith}
 use native.Mathlib.Decide.{decLt}
 use lib.Dec.{eqb}
-use borrow.Author.Tests.{eq-eqb, ne-eqb, not-true}
+use borrow.Author.Tests.{eq-eqb, ne-eqb}
 use lib.ListN.{length, drop, getD, set, length-set}
 use Rattle.refusals.specs.Tests.{firstOf, pick}
-use Rattle.refusals.specs.Laws.{both}
 use Rattle.refusals.specs.declared.Verdict.{Verdict}
 use Rattle.refusals.specs.declared.Verdict.the-variants.{Passed, Failed}
 use Rattle.kind.specs.declared.Kind.{Kind}
@@ -56,9 +54,6 @@ module _ (bs : List ℕ) (i : ℕ) (h : i < length bs / 2) where
   -- an event that is not the last
   pub plain-passed : kindOf (pairAt bs i) ≡ Event → eqb (i + 1) (length bs / 2) ≡ false → firstAt i (pairsTests (drop i (pairs bs))) ≡ firstAt (i + 1) (pairsTests (drop (i + 1) (pairs bs)))
   plain-passed k l = pair-passed (rw (k, l))
-
-pub asked-both : (s t : Bool) → s && not t ≡ true → (s ≡ true) × (t ≡ false)
-asked-both s t e = let p = both s (not t) e in (p .0, not-true t (p .1))
 
 pub pair-end : (bs : List ℕ) (i : ℕ) → length bs / 2 ≤ i → firstAt i (pairsTests (drop i (pairs bs))) ≡ Clear
 unfolding firstAt pairsTests

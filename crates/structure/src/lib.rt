@@ -25,16 +25,17 @@ pub fn pairs_finding(voice: &[u8]) -> Finding
     let n = voice.len() / 2;
     let mut i = 0;
     while i < n {
-        let plain = bodies::plain_at(voice, i);
-        if plain & (i + 1 != n) {
-            i += 1;
-        } else {
-            let kind = bodies::kind_at(voice, i);
-            match single::test_pair(kind, i + 1 == n) {
-                Verdict::Failed(number) => return Finding::At(number, i),
-                Verdict::Passed => {
-                    i += 1;
-                }
+        if i + 1 < n {
+            if bodies::plain_at(voice, i) {
+                i += 1;
+                continue;
+            }
+        }
+        let kind = bodies::kind_at(voice, i);
+        match single::test_pair(kind, i + 1 == n) {
+            Verdict::Failed(number) => return Finding::At(number, i),
+            Verdict::Passed => {
+                i += 1;
             }
         }
     }
