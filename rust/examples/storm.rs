@@ -1,0 +1,118 @@
+//! Many short damaged inputs through every call, held against the plain reader:
+//! `cargo run --release --example storm -- COUNT SEED`
+
+#[path = "../tests/check/mod.rs"]
+mod check;
+#[path = "../tests/make/mod.rs"]
+mod make;
+#[path = "../tests/plain/mod.rs"]
+mod plain;
+
+use check::{hex, Ask, Checked, Checker};
+use make::rng::Rng;
+use make::{damage, mus, sid};
+use std::time::Instant;
+
+/// Longer ones are cut: the storm is about many inputs, not about long ones.
+const LONGEST: usize = 320;
+
+fn main() {
+    let mut arguments = std::env::args().skip(1).map(|word| word.parse::<u64>());
+    let (Some(Ok(count)), Some(Ok(seed))) = (arguments.next(), arguments.next()) else {
+        eprintln!("storm COUNT SEED");
+        std::process::exit(2);
+    };
+    let start = Instant::now();
+    let mut storm = Storm::new(seed);
+    let mut differences = 0_u64;
+    for number in 0..count {
+        if let Err(difference) = storm.next() {
+            differences += 1;
+            if differences <= 20 {
+                println!("input {number}: {difference}\n  {}", hex(&storm.file));
+            }
+        }
+    }
+    let seconds = start.elapsed().as_secs_f64();
+    println!("{count} inputs from seed {seed}, each through eight calls, in {seconds:.1} s");
+    println!("{differences} differences");
+    println!("{}", storm.checker.told());
+    std::process::exit(i32::from(differences > 0));
+}
+
+struct Storm {
+    rng: Rng,
+    checker: Checker,
+    /// Files that are accepted, PSID/RSID and MUS in turn; each input is one of them, damaged.
+    right: Vec<Vec<u8>>,
+    file: Vec<u8>,
+}
+
+impl Storm {
+    fn new(seed: u64) -> Storm {
+        let mut storm = Storm {
+            rng: Rng::new(seed),
+            checker: Checker::new(),
+            right: vec![Vec::new(); 512],
+            file: Vec::new(),
+        };
+        (0..storm.right.len()).for_each(|at| storm.renew(at));
+        storm
+    }
+
+    /// Puts another file into one place of the stock.
+    fn renew(&mut self, at: usize) {
+        let file = &mut self.right[at];
+        match at % 2 {
+            0 => sid::valid(&mut self.rng, 80, file),
+            _ => mus::valid(&mut self.rng, 24, file),
+        }
+    }
+
+    /// Makes an input and runs it.
+    fn next(&mut self) -> Checked {
+        if self.rng.one_in(16) {
+            let at = self.rng.below(self.right.len());
+            self.renew(at);
+        }
+        let at = self.rng.below(self.right.len());
+        self.file.clear();
+        self.file.extend_from_slice(&self.right[at]);
+        for _ in 0..self.rng.pick(&[0, 1, 1, 1, 2, 2, 3, 5]) {
+            match at % 2 {
+                0 => damage::sid(&mut self.rng, &mut self.file),
+                _ => damage::mus(&mut self.rng, &mut self.file),
+            }
+        }
+        self.file.truncate(LONGEST);
+        every_call(&mut self.checker, &mut self.rng, &self.file)
+    }
+}
+
+fn every_call(checker: &mut Checker, rng: &mut Rng, file: &[u8]) -> Checked {
+    let salt = rng.next() as u32;
+    checker.sid_read(file)?;
+    checker.sid_fields(file, rng.below(26), salt)?;
+    let memory = match rng.below(16) {
+        0 => rng.pick(&[0, 1, 65_535, 65_537]),
+        _ => 65_536,
+    };
+    checker.sid_load(file, memory)?;
+    checker.sid_speed(file, rng.pick(&[0, 1, 2, 31, 32, 33, 256, 257, u32::MAX]))?;
+    checker.mus_accept(file, rng.below(17), salt)?;
+    let ask = ask(rng, file);
+    checker.mus_list(file, ask, salt)?;
+    let (first, second) = (rng.byte(), rng.byte());
+    checker.pair_read(first, second)?;
+    // a code that some pair has, mostly with a digit changed
+    let code = plain::code::read(first, second).unwrap_or(salt);
+    let change = rng.below(16) as u32;
+    checker.pair_write(code ^ change << (4 * rng.below(8)))
+}
+
+/// A window; near the front in a voice that is long when played, which costs the walk up to it.
+fn ask(rng: &mut Rng, file: &[u8]) -> Ask {
+    let voices = plain::mus::accept(file);
+    let events = voices.map_or([3; 3], |voices| voices.map(|voice| voice.events.min(500)));
+    Ask::some(rng, events, 24)
+}

@@ -1,0 +1,126 @@
+//! Pairs: the library against the plain reader, on all pairs and on the codes beside theirs.
+
+mod check;
+mod make;
+mod plain;
+
+use check::{all_seeds, seeds, Checker};
+use make::rng::Rng;
+use std::collections::BTreeSet;
+use turftangle::{read_code, read_pair, write_code, write_pair, Meaning};
+
+fn all_pairs() -> impl Iterator<Item = (u8, u8)> {
+    (0..=0xFFFF_u16).map(|pair| ((pair >> 8) as u8, pair as u8))
+}
+
+/// The codes that some pair has.
+fn all_codes() -> BTreeSet<u32> {
+    let codes = all_pairs().filter_map(|(first, second)| read_code(first, second).ok());
+    codes.collect()
+}
+
+#[test]
+fn every_pair_is_read() {
+    let mut checker = Checker::new();
+    for (first, second) in all_pairs() {
+        checker.pair_read(first, second).unwrap();
+    }
+    assert_eq!(checker.tally.iter().sum::<u64>(), 65_536);
+    checker.all_came(&[27, 28]);
+}
+
+/// Each code of a pair is written, and what is written reads as that code again.
+#[test]
+fn every_code_is_written() {
+    let mut checker = Checker::new();
+    for code in all_codes() {
+        checker.pair_write(code).unwrap();
+        let [first, second] = write_code(code).unwrap();
+        assert_eq!(read_code(first, second), Ok(code), "{code:08X}");
+    }
+    checker.all_came(&[0]);
+    assert_eq!(checker.tally[43], 0);
+}
+
+/// Each digit of each code changed to every other value; a code beside it is written exactly when
+/// some pair has it.
+#[test]
+fn codes_beside_them() {
+    let codes = all_codes();
+    let mut checker = Checker::new();
+    for &code in &codes {
+        for place in 0..8 {
+            for digit in 1..16 {
+                let near = code ^ digit << (4 * place);
+                checker.pair_write(near).unwrap();
+                if place < 2 {
+                    assert_eq!(
+                        write_code(near).is_ok(),
+                        codes.contains(&near),
+                        "{near:08X}"
+                    );
+                }
+            }
+        }
+    }
+    checker.all_came(&[0, 43]);
+}
+
+#[test]
+fn random_codes() {
+    let mut checker = Checker::new();
+    for seed in seeds(2_000_000) {
+        let rng = &mut Rng::new(seed);
+        let code = rng.next() as u32;
+        // half of them begin like a code
+        let code = if rng.one_in(2) {
+            code & 0x3FF1_FFFF
+        } else {
+            code
+        };
+        if let Err(difference) = checker.pair_write(code) {
+            panic!("seed {seed}: {difference}");
+        }
+    }
+    if all_seeds() {
+        checker.all_came(&[43]);
+    }
+}
+
+/// The wrapper's meanings and codes, there and back; its meanings are those of the plain reader.
+#[test]
+fn meanings_there_and_back() {
+    for (first, second) in all_pairs() {
+        let (Ok(code), Ok(meaning)) = (read_code(first, second), read_pair(first, second)) else {
+            assert_eq!(
+                read_code(first, second).err(),
+                read_pair(first, second).err()
+            );
+            continue;
+        };
+        assert_eq!(Meaning::from_code(code), Some(meaning));
+        assert_eq!(meaning.code(), Some(code));
+        assert_eq!(write_pair(meaning), write_code(code));
+        let plain = plain::pair::read(first, second).expect("the readers agree");
+        assert_eq!(plain::code::encode(plain), code);
+        assert_eq!(plain::code::decode(code), Some(plain));
+    }
+}
+
+/// Meanings without a code of their own are answered 43 too.
+#[test]
+fn meanings_without_a_code() {
+    let deep = Meaning::from_code(0x1010_0C07).expect("a whole C");
+    let Meaning::Note(mut note) = deep else {
+        panic!("a note");
+    };
+    note.tone.as_mut().expect("a tone").octave = 16;
+    let far = Meaning::Command(turftangle::Command {
+        name: turftangle::Name::Por,
+        value: 65_536,
+    });
+    for meaning in [Meaning::Note(note), far] {
+        let refusal = write_pair(meaning).unwrap_err();
+        assert_eq!((refusal.number, refusal.place), (43, 0));
+    }
+}

@@ -1,0 +1,137 @@
+//! Document 01's own sums, as numbers: both readers must give them.
+
+mod plain;
+
+use turftangle::{accept, list, read_code, write_code};
+
+/// Both readers' code of a pair, or the number of its refusal.
+fn code(first: u8, second: u8) -> Result<u32, u32> {
+    let library = read_code(first, second).map_err(|refusal| refusal.number);
+    let plain = plain::code::read(first, second).map_err(|refusal| refusal.number);
+    assert_eq!(library, plain, "{first:02X} {second:02X}");
+    plain
+}
+
+/// Both readers' pair for a code.
+fn pair(code: u32) -> Option<u32> {
+    let library = write_code(code)
+        .ok()
+        .map(|p| u32::from(u16::from_be_bytes(p)));
+    let plain = plain::code::write(code).ok();
+    assert_eq!(library, plain, "{code:08X}");
+    plain
+}
+
+#[test]
+fn starred_pairs() {
+    assert_eq!(code(0xF0, 0x94), Ok(0x1042_1F05)); // tied double dotted quarter, F natural 5
+    assert_eq!(code(0x20, 0x94), Ok(0x1640_0F05)); // 64th, never dotted
+    assert_eq!(code(0x40, 0x94), Ok(0x1640_1F05)); // tied 64th
+    assert_eq!(code(0x80, 0x94), Ok(0x1643_0F05)); // triplet 64th
+    assert_eq!(code(0xA0, 0x94), Ok(0x1643_0F05));
+    assert_eq!(code(0x56, 0xFF), Ok(0x2561_0001)); // P-S -1
+    assert_eq!(code(0x56, 0x80), Ok(0x2561_0080)); // P-S -128
+    assert_eq!(code(0xA6, 0xA1), Ok(0x2A61_0001)); // TPS -1
+    assert_eq!(code(0xA6, 0xB1), Ok(0x2A60_0000)); // TPS 0
+    assert_eq!(code(0x2E, 0x53), Ok(0x22E1_0001)); // RTP -1
+    assert_eq!(code(0x10, 0xF9), Ok(0x1040_0CF0)); // C flat 0
+    assert_eq!(code(0x10, 0x47), Ok(0x1040_0B17)); // B sharp 7
+    assert_eq!(code(0x6E, 0xF8), Err(28)); // SCA -8
+    assert_eq!(code(0x01, 0x83), Err(27));
+    assert_eq!(code(0x06, 0x00), Ok(0x2060_0100)); // TEM 256
+    assert_eq!(code(0x01, 0x9B), Ok(0x3020_0011)); // CAL 17
+    assert_eq!(code(0x01, 0xDF), Ok(0x38F0_0002)); // DST 2
+    assert_eq!(code(0x00, 0x08), Ok(0x1AB0_0000)); // absolute pitch, rest
+    assert_eq!(code(0x1A, 0x00), Ok(0x20A1_0800)); // DTN -2,048
+    assert_eq!(code(0xFE, 0x38), Ok(0x23E1_00C8)); // JIF raw 824, -200
+    assert_eq!(code(0xFE, 0x37), Err(28)); // JIF raw 823
+    assert_eq!(code(0xBE, 0xF6), Err(28)); // JIF raw 758
+}
+
+/// Where several pairs mean one thing.
+#[test]
+fn preferred_pairs() {
+    assert_eq!(pair(0x1640_1F05), Some(0x6094)); // 64th with bit 5 set
+    assert_eq!(pair(0x1643_0F05), Some(0xA094));
+    assert_eq!(pair(0x1D20_0F05), Some(0x2494)); // utility voice with bit 7 clear
+    assert_eq!(pair(0x1040_0000), Some(0x1000)); // rest 00
+    assert_eq!(pair(0x2A60_0000), Some(0xA60E)); // TPS zero 0E
+    assert_eq!(pair(0x22E0_0000), Some(0x2E5B)); // RTP zero 5B
+    assert_eq!(pair(0x22E1_000D), Some(0x2E54)); // RTP -13: one octave and one half-step down
+    assert_eq!(pair(0x22E0_000D), Some(0x2E62)); // RTP 13
+    assert_eq!(pair(0x1641_0F05), None); // a dotted 64th
+    assert_eq!(pair(0x2A61_0000), None); // a zero below zero
+}
+
+const SONG: [u8; 28] = [
+    0x00, 0x09, 0x0A, 0x00, 0x02, 0x00, 0x02, 0x00, 0x06, 0x78, 0x36, 0x03, 0x20, 0x94, 0x01, 0x0F,
+    0x01, 0x4F, 0x01, 0x4F, 0x01, 0x4F, 0x0D, 0x0D, 0x0D, 0x0D, 0x0D, 0x00,
+];
+
+/// Both readers' events of a voice, at most 20.
+fn events(file: &[u8], voice: u32) -> Vec<(u32, u32)> {
+    let listed = |library: bool| {
+        let (mut offsets, mut jiffies) = ([0; 20], [0; 20]);
+        let count = if library {
+            list(file, voice, 0, &mut offsets, &mut jiffies).ok()
+        } else {
+            plain::mus::list(file, voice, 0, &mut offsets, &mut jiffies).ok()
+        };
+        let cells = offsets.into_iter().zip(jiffies);
+        cells.take(count.expect("accepted")).collect::<Vec<_>>()
+    };
+    assert_eq!(listed(true), listed(false));
+    listed(false)
+}
+
+#[test]
+fn the_listing() {
+    assert_eq!(
+        events(&SONG, 1),
+        [(8, 0), (12, 0), (12, 1), (12, 3), (16, 5)]
+    );
+    assert_eq!(events(&SONG, 2), [(18, 0)]);
+    assert_eq!(events(&SONG, 3), [(20, 0)]);
+    // TEM, HED 3 over a note 1 + 3 x 2, HLT: 9 pairs walked
+    let voices = accept(&SONG).unwrap();
+    let counts = voices.map(|v| (v.offset, v.pairs, v.events, v.walked));
+    assert_eq!(counts, [(8, 5, 5, 9), (18, 1, 1, 1), (20, 1, 1, 1)]);
+}
+
+/// Eight 64ths at t = 120 take 15 jiffies, not 8.
+#[test]
+fn fractions_are_kept() {
+    let mut file = vec![0, 0, 18, 0, 2, 0, 2, 0];
+    file.extend([0x20, 0x94].repeat(8));
+    file.extend([0x01, 0x4F].repeat(3));
+    file.extend([0x0D, 0x0D, 0x0D, 0x0D, 0x0D, 0x00]);
+    let jiffies: Vec<u32> = events(&file, 1).iter().map(|event| event.1).collect();
+    assert_eq!(jiffies, [0, 1, 3, 5, 7, 9, 11, 13, 15]);
+}
+
+/// An RSID without BASIC: the effective init, by the field and by the load address.
+#[test]
+fn effective_init() {
+    for (init, by_load, number) in [
+        (0x07E8, false, 0),
+        (0x9FFF, false, 0),
+        (0x07E7, false, 12),
+        (0xA000, false, 12),
+        (0x07E8, true, 0),
+        (0x9FFF, true, 0),
+        (0xA000, true, 12),
+    ] {
+        let mut file = vec![0; 0x7C];
+        file[..8].copy_from_slice(b"RSID\0\x02\0\x7C");
+        file[15] = 1;
+        let load: u16 = if by_load { init } else { 0x1000 };
+        if !by_load {
+            file[10..12].copy_from_slice(&init.to_be_bytes());
+        }
+        file.extend(load.to_le_bytes());
+        file.push(0x60);
+        let library = turftangle::read(&file).map_or_else(|refusal| refusal.number, |()| 0);
+        let plain = plain::sid::read(&file).map_or_else(|refusal| refusal.number, |_| 0);
+        assert_eq!((library, plain), (number, number), "{init:04X} {by_load}");
+    }
+}

@@ -1,0 +1,300 @@
+//! The hand-made files of crates/sidvectors, musvectors and listvectors and the pairs of
+//! crates/pairs, worked out from document 01 (tools/ says why each must give what): both readers
+//! must give the lines that stand there.
+
+mod plain;
+
+use std::fs;
+use std::path::PathBuf;
+use turftangle::{read_pair, write_pair, Accidental, Command, Duration, Letter, Meaning, Name};
+use turftangle::{Note, Refusal, Shape, Tone};
+
+fn path(rest: &str) -> PathBuf {
+    PathBuf::from(env!("CARGO_MANIFEST_DIR"))
+        .join("../crates")
+        .join(rest)
+}
+
+/// What a program must print, line by line; lines behind a text with a line feed in it are cut.
+fn lines(name: &str) -> Vec<String> {
+    let bytes = fs::read(path(name)).expect("the stored run is there");
+    let text = String::from_utf8_lossy(&bytes).into_owned();
+    text.lines().map(str::to_string).collect()
+}
+
+fn pair_of<T>(answer: Result<T, Refusal>) -> Result<T, (u32, u32)> {
+    answer.map_err(|refusal| (refusal.number, refusal.place))
+}
+
+fn plain_pair_of<T>(answer: Result<T, plain::Refusal>) -> Result<T, (u32, u32)> {
+    answer.map_err(|refusal| (refusal.number, refusal.place))
+}
+
+/// The line of an accepted or refused PSID or RSID file, from its 21 cells.
+fn sid_line(name: &str, answer: Result<u32, (u32, u32)>, cells: &[u32; 21]) -> String {
+    if let Err((number, place)) = answer {
+        return format!("{name} refused {number} {place}");
+    }
+    let words = [
+        "version", "load", "init", "play", "songs", "start", "speed", "basic", "clock", "model",
+    ];
+    let kind = if cells[0] == 0 { "PSID" } else { "RSID" };
+    let mut line = format!("{name} accepted {kind}");
+    for (word, cell) in words.iter().zip(&cells[1..]) {
+        line += &format!(" {word} {cell}");
+    }
+    let pairs = ["pages", "title", "author", "released", "payload"];
+    for (word, two) in pairs.iter().zip(cells[11..].chunks_exact(2)) {
+        line += &format!(" {word} {} {}", two[0], two[1]);
+    }
+    line
+}
+
+#[test]
+fn sid_files() {
+    let lines = lines("sidvectors/stdout");
+    let mut seen = 0;
+    for entry in fs::read_dir(path("sidvectors/data")).expect("the files are there") {
+        let entry = entry.expect("a file");
+        let name = entry.file_name().into_string().expect("a plain name");
+        let file = fs::read(entry.path()).expect("a file");
+        let mut cells = [0; 21];
+        let library = pair_of(turftangle::fields_into(&file, &mut cells));
+        let library = sid_line(&name, library, &cells);
+        let plain = plain_pair_of(plain::sid::fields_into(&file, &mut cells));
+        assert_eq!(library, sid_line(&name, plain, &cells));
+        assert!(lines.contains(&library), "{library}");
+        seen += 1;
+    }
+    assert!(seen > 100);
+}
+
+/// The songs that `sidvectors` asks for: these, the last, the next and the greatest.
+#[test]
+fn sid_songs() {
+    let mut seen = 0;
+    for line in lines("sidvectors/stdout") {
+        let words: Vec<&str> = line.split(' ').collect();
+        if words.get(1) != Some(&"song") {
+            continue;
+        }
+        let file = fs::read(path("sidvectors/data").join(words[0])).expect("a file");
+        let songs = plain::sid::read(&file).map_or(7, |header| header.songs.into());
+        let asked = [0, 1, 2, 3, 31, 32, 33, songs, songs + 1, u32::MAX];
+        for (song, answer) in asked.iter().zip(words[3..].chunks(2)) {
+            let library = turftangle::speed(&file, *song).unwrap_or_else(|r| r.number);
+            let plain = plain::sid::speed(&file, *song).unwrap_or_else(|r| r.number);
+            assert_eq!((library, plain), (plain, library), "{line}");
+            assert_eq!(library.to_string(), answer[0], "{line}");
+            seen += 1;
+        }
+    }
+    assert!(seen > 50);
+}
+
+/// The line of a MUS file as far as the calls tell it: without load address and text lines.
+fn mus_line(name: &str, answer: Result<u32, (u32, u32)>, file: &[u8], cells: &[u32; 12]) -> String {
+    if let Err((number, place)) = answer {
+        return format!("{name} refused {number} {place} ");
+    }
+    let load = u16::from_le_bytes([file[0], file[1]]);
+    let mut line = format!("{name} accepted load {load}");
+    for (number, four) in (1..).zip(cells.chunks_exact(4)) {
+        let [offset, pairs, events, walked] = [four[0], four[1], four[2], four[3]];
+        line += &format!(" v{number} {offset} {} {events} {walked}", 2 * pairs);
+    }
+    line + " lines "
+}
+
+#[test]
+fn mus_files() {
+    let lines = lines("musvectors/stdout");
+    let mut seen = 0;
+    for entry in fs::read_dir(path("musvectors/data")).expect("the files are there") {
+        let entry = entry.expect("a file");
+        let name = entry.file_name().into_string().expect("a plain name");
+        let file = fs::read(entry.path()).expect("a file");
+        let mut cells = [0; 12];
+        let library = pair_of(turftangle::accept_into(&file, &mut cells));
+        let library = mus_line(&name, library, &file, &cells);
+        let plain = plain_pair_of(plain::mus::accept_into(&file, &mut cells));
+        assert_eq!(library, mus_line(&name, plain, &file, &cells));
+        let stands = lines.iter().any(|line| line.starts_with(&library));
+        assert!(stands, "{library}");
+        seen += 1;
+    }
+    assert!(seen > 250);
+}
+
+/// The numbers that the program listvectors puts into every cell; it prints two cells more.
+fn cells(from: u32, length: usize) -> Vec<u32> {
+    (0..length as u32 + 2).map(|i| from + i).collect()
+}
+
+fn joined(cells: &[u32]) -> String {
+    cells.iter().map(|cell| format!(" {cell}")).collect()
+}
+
+/// The rest of a line of listvectors: the answer and all cells.
+fn list_line(file: &[u8], ask: &[u64], library: bool) -> String {
+    let (one, two) = (ask[2] as usize, ask[3] as usize);
+    let (mut offsets, mut jiffies) = (cells(4_000_000_000, one), cells(3_000_000_000, two));
+    let (voice, first) = (ask[0] as u32, ask[1]);
+    let answer = if library {
+        let answer = turftangle::list(file, voice, first, &mut offsets[..one], &mut jiffies[..two]);
+        pair_of(answer)
+    } else {
+        let answer = plain::mus::list(file, voice, first, &mut offsets[..one], &mut jiffies[..two]);
+        plain_pair_of(answer)
+    };
+    let answer = match answer {
+        Ok(count) => format!("count {count}"),
+        Err((number, place)) => format!("refused {number} {place}"),
+    };
+    let (offsets, jiffies) = (joined(&offsets), joined(&jiffies));
+    format!("{answer} offsets{offsets} jiffies{jiffies}")
+}
+
+#[test]
+fn listings() {
+    let lines = lines("listvectors/stdout");
+    assert!(lines.len() > 100);
+    for line in lines {
+        let (name, rest) = line.split_once(' ').expect("a name");
+        let words: Vec<&str> = rest.splitn(5, ' ').collect();
+        let ask: Vec<u64> = words[..4]
+            .iter()
+            .map(|word| word.parse().unwrap())
+            .collect();
+        let file = fs::read(path("listvectors/data").join(name)).expect("a file");
+        assert_eq!(list_line(&file, &ask, true), words[4], "{name} {ask:?}");
+        assert_eq!(list_line(&file, &ask, false), words[4], "{name} {ask:?}");
+    }
+}
+
+/// A meaning in the words of the program pairs.
+fn told(meaning: Meaning) -> String {
+    match meaning {
+        Meaning::Note(note) => told_note(note),
+        Meaning::Command(command) => told_command(command),
+    }
+}
+
+fn told_note(note: Note) -> String {
+    let duration = match note.duration {
+        Duration::Whole => "whole",
+        Duration::Half => "half",
+        Duration::Quarter => "quarter",
+        Duration::Eighth => "eighth",
+        Duration::Sixteenth => "sixteenth",
+        Duration::ThirtySecond => "thirty-second",
+        Duration::SixtyFourth => "64th",
+        Duration::UtilityDuration => "utility-duration",
+        Duration::UtilityVoice => "utility-voice",
+        Duration::AbsolutePitch => {
+            assert!(note.shape == Shape::Plain && !note.tied);
+            return format!("absolute {}", told_tone(note.tone));
+        }
+    };
+    let shape = match note.shape {
+        Shape::Plain => "plain",
+        Shape::Dotted => "dotted",
+        Shape::DoubleDotted => "double-dotted",
+        Shape::Triplet => "triplet",
+    };
+    let tie = if note.tied { "tied" } else { "-" };
+    format!("note {duration} {shape} {tie} {}", told_tone(note.tone))
+}
+
+/// Letter, accidental, octave and half-step.
+fn told_tone(tone: Option<Tone>) -> String {
+    let Some(tone) = tone else {
+        return "rest".to_string();
+    };
+    let step = match tone.letter {
+        Letter::C => 0,
+        Letter::D => 2,
+        Letter::E => 4,
+        Letter::F => 5,
+        Letter::G => 7,
+        Letter::A => 9,
+        Letter::B => 11,
+    };
+    let (accidental, adds) = match tone.accidental {
+        Accidental::Natural => ("natural", 0),
+        Accidental::Sharp => ("sharp", 1),
+        Accidental::DoubleSharp => ("double-sharp", 2),
+        Accidental::Flat => ("flat", -1),
+        Accidental::DoubleFlat => ("double-flat", -2),
+    };
+    let half_step = 12 * i32::from(tone.octave) + step + adds;
+    let Tone { letter, octave, .. } = tone;
+    format!("{letter:?} {accidental} {octave} {half_step}")
+}
+
+fn told_command(command: Command) -> String {
+    let Command { name, value } = command;
+    match name {
+        Name::Tal | Name::End | Name::Hlt => format!("{name}"),
+        Name::Bmp => format!("{name} {}", ["UP", "DN"][value as usize]),
+        Name::Flt | Name::Rng | Name::Snc | Name::FX | Name::PV | Name::ThreeOff => {
+            format!("{name} {}", ["NO", "YES"][value as usize])
+        }
+        _ => format!("{name} {value}"),
+    }
+}
+
+#[test]
+fn pairs() {
+    let stdin = fs::read(path("pairs/stdin")).expect("the pairs are there");
+    let lines = lines("pairs/stdout");
+    assert_eq!(lines.len(), stdin.len() / 2);
+    for (pair, line) in stdin.chunks_exact(2).zip(lines) {
+        let (first, second) = (pair[0], pair[1]);
+        let answer = match read_pair(first, second) {
+            Err(refusal) => format!("{first:02X} {second:02X} refused {}", refusal.number),
+            Ok(meaning) => {
+                let [a, b] = write_pair(meaning).expect("a pair has it");
+                format!("{first:02X} {second:02X} {} {a:02X} {b:02X}", told(meaning))
+            }
+        };
+        assert_eq!(answer, line);
+        let library = turftangle::read_code(first, second);
+        assert_eq!(
+            pair_of(library),
+            plain_pair_of(plain::code::read(first, second))
+        );
+    }
+}
+
+/// The command with this abbreviation.
+fn named(abbreviation: &str) -> Option<Name> {
+    let names = (0x200..0x400).filter_map(Name::from_number);
+    names
+        .into_iter()
+        .find(|name| name.abbreviation() == abbreviation)
+}
+
+/// The commands of crates/pairvectors, on both sides of every range.
+#[test]
+fn commands_written() {
+    let mut seen = 0;
+    for line in lines("pairvectors/stdout") {
+        let words: Vec<&str> = line.split(' ').collect();
+        let Some(name) = named(words[0]) else {
+            continue;
+        };
+        let value = match words[1] {
+            "NO" => 0,
+            "YES" => 1,
+            number => number.parse().expect("a number"),
+        };
+        let answer = match write_pair(Meaning::Command(Command { name, value })) {
+            Ok([first, second]) => format!("{first:02X} {second:02X}"),
+            Err(refusal) => format!("refused {} {}", refusal.number, refusal.place),
+        };
+        assert_eq!(answer, words[2..].join(" "), "{line}");
+        seen += 1;
+    }
+    assert!(seen > 100);
+}
