@@ -14,8 +14,6 @@ ghost use Rattle.capi.specs.Lists.{cellsAfter, headerNumbers, songNumber
 use events::Listed;
 use meaning::Reading;
 use meaning::Spelling;
-use refusals::Refusal;
-use refusals::Verdict;
 use sid::SongSpeed;
 use sid::Tested;
 
@@ -28,9 +26,9 @@ mod tunes;
 pub extern "C" fn tt_sid_read(file: &[u8]) -> u64
     ensures { λ r. ⌜ r ≡ packed noValue (sidOutcome (now (file .entry))) ⌝ }
 {
-    match sid::verdict(file) {
-        Verdict::Failed(number) => answers::refused(Refusal::unplaced(number)),
-        Verdict::Passed => 0,
+    match sid::test(file) {
+        Tested::Refused(x) => answers::refused(x),
+        Tested::Passed(_, _) => 0,
     }
 }
 

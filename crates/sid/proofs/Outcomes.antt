@@ -1,7 +1,6 @@
 -- What each way through a call comes to. Assumes nothing.
 -- first-parts                                 the tests of a file, by the two lists of them
--- too-short, header-failed, payload-tested   the first test that applies, by the verdicts of the two lists
--- all-tested                                  what the tests come to
+-- too-short, header-failed, payload-failed, all-passed   testing, by the verdicts of the two lists
 -- payload-short                               the payload is no longer than the file
 -- wrong-size, put-refused, put-fits, put-done loading, by the size of memory and by the tests
 -- song-refused, no-song, song-bit             a song's speed, by the tests
@@ -15,7 +14,6 @@ use lib.ListN.{length, take, drop, length-take}
 use lib.Dec.{ltb, eqb}
 use borrow.Author.Tests.{lt-ltb, eq-eqb, ne-eqb}
 use Rattle.refusals.specs.Numbers.Outcome.{accepted, refused}
-use Rattle.refusals.specs.declared.Verdict.{Verdict}
 use Rattle.refusals.specs.declared.Verdict.the-variants.{Passed, Failed}
 use Rattle.refusals.specs.Tests.{firstOf, guarded, pick}
 use Rattle.refusals.specs.Laws.{later, first-append}
@@ -35,24 +33,27 @@ use Rattle.sid.specs.Speed.{speedBit, speedOutcome}
 use Rattle.sid.specs.Pieces.{partOf, spanOf, pieceIn}
 use Rattle.sid.specs.Laws.{read-headed, accepted-fits}
 
-pub too-short : (f : List ℕ) → length f < 118 → Failed 1 ≡ firstOf (sidTests f)
-unfolding sidTests fieldsOf
+pub too-short : (f : List ℕ) → length f < 118 → refused 1 0 ≡ testedOutcome f
+unfolding testedOutcome sidTests fieldsOf
 too-short f h = rw (lt-ltb (length f) 118 h)
-
-pub all-tested : (f : List ℕ) (v : Verdict) → v ≡ firstOf (sidTests f) → guarded v (accepted (passing (fieldsOf f) (payloadOf f (fieldsOf f)))) ≡ testedOutcome f
-unfolding testedOutcome
-all-tested f v e = rw e
 
 module _ (f : List ℕ) (x : Fields) (p : Payload) (ex : x ≡ fieldsOf f) (ep : p ≡ payloadOf f x) where
   pub first-parts : firstOf (sidTests f) ≡ later (firstOf (headerTests x)) (firstOf (payloadTests x p))
   unfolding sidTests
   first-parts = rw (ep, ex, first-append (headerTests (fieldsOf f)) (payloadTests (fieldsOf f) (payloadOf f (fieldsOf f))))
 
-  pub header-failed : (n : ℕ) → firstOf (headerTests x) ≡ Failed n → Failed n ≡ firstOf (sidTests f)
-  header-failed n e = rw (first-parts, e)
+  by-parts : testedOutcome f ≡ guarded (later (firstOf (headerTests x)) (firstOf (payloadTests x p))) (accepted (passing x p))
+  unfolding testedOutcome
+  by-parts = rw (first-parts, ep, ex)
 
-  pub payload-tested : firstOf (headerTests x) ≡ Passed → firstOf (payloadTests x p) ≡ firstOf (sidTests f)
-  payload-tested first = rw (first-parts, first)
+  pub header-failed : (n : ℕ) → firstOf (headerTests x) ≡ Failed n → refused n 0 ≡ testedOutcome f
+  header-failed n e = rw (by-parts, e)
+
+  pub payload-failed : (n : ℕ) → firstOf (headerTests x) ≡ Passed → firstOf (payloadTests x p) ≡ Failed n → refused n 0 ≡ testedOutcome f
+  payload-failed n first e = rw (by-parts, first, e)
+
+  pub all-passed : firstOf (headerTests x) ≡ Passed → firstOf (payloadTests x p) ≡ Passed → accepted (passing x p) ≡ testedOutcome f
+  all-passed first e = rw (by-parts, first, e)
 
   pub payload-short : p .len ≤ length f
   unfolding payloadOf fieldsOf

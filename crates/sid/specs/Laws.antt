@@ -1,6 +1,5 @@
 -- A file is accepted exactly when none of 1 to 13 applies to it. Laws of reading and of the parts of an accepted file.
 -- header                         what a file says of itself, accepted or not
--- by-verdict                     reading, by the first test that applies
 -- none-accepted, accepted-none   'accepted exactly when no listed refusal applies'
 -- told-once                      no two answers are told alike: an equation of `told` leaves the answer no freedom
 -- read-headed, load-headed       what tests come to, with the header made, is what the call comes to
@@ -62,10 +61,6 @@ load-headed f cells o e =
 
 abbrev pub header : List ℕ → Header
 header f = headerOf f (fieldsOf f) (payloadOf f (fieldsOf f))
-
-pub by-verdict : (f : List ℕ) (v : Verdict) → v ≡ firstOf (sidTests f) → guarded v (accepted (header f)) ≡ sidOutcome f
-unfolding sidOutcome
-by-verdict f v e = rw e
 
 pub none-accepted : (f : List ℕ) → None (sidTests f) → sidOutcome f ≡ accepted (header f)
 unfolding sidOutcome

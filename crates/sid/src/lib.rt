@@ -2,8 +2,6 @@
 // every number; none has a requires.
 ghost use mathlib.Core.Path.{_≡_};
 ghost use lib.ListN.{length};
-ghost use Rattle.refusals.specs.Tests.{firstOf};
-ghost use Rattle.sidrefusals.specs.PayloadTests.{sidTests};
 ghost use Rattle.sid.specs.Answers.{told, sidOutcome, toldTested, testedOutcome};
 ghost use Rattle.sid.specs.Loading.{loadOutcome, putOutcome, memoryAfter};
 ghost use Rattle.sid.specs.Speed.{toldSpeed, speedOutcome};
@@ -80,36 +78,25 @@ pub enum SongSpeed {
     Refused(Refusal),
 }
 
-// internal: the first of 1 to 13 that applies to a file. It hands out no field, so that nothing goes through memory.
-pub fn verdict(file: &[u8]) -> Verdict
-    ensures { λ r. ⌜ r ≡ firstOf (sidTests (now (file .entry))) ⌝ }
-{
-    // the first test by itself: past it the compiler knows that the header is there, and leaves out a check at each byte
-    if file.len() < SHORTEST {
-        return Verdict::Failed(refusals::TOO_SHORT);
-    }
-    let x = sidheader::read_fields(file);
-    let first = sidrefusals::test_header(x);
-    match first {
-        Verdict::Failed(number) => Verdict::Failed(number),
-        Verdict::Passed => {
-            let p = sidheader::payload_of(file, x);
-            sidrefusals::test_payload(x, p)
-        }
-    }
-}
-
 // internal: tests a file, and does not look for the ends of its texts: only the header needs them.
 pub fn test(file: &[u8]) -> Tested
     ensures { λ r. ⌜ toldTested r ≡ testedOutcome (now (file .entry)) ⌝ }
 {
-    let answer = verdict(file);
-    match answer {
+    // the first test by itself: past it the compiler knows that the header is there, and leaves out a check at each byte
+    if file.len() < SHORTEST {
+        return Tested::Refused(Refusal::unplaced(refusals::TOO_SHORT));
+    }
+    let x = sidheader::read_fields(file);
+    let first = sidrefusals::test_header(x);
+    match first {
         Verdict::Failed(number) => Tested::Refused(Refusal::unplaced(number)),
         Verdict::Passed => {
-            let x = sidheader::read_fields(file);
             let p = sidheader::payload_of(file, x);
-            Tested::Passed(x, p)
+            let second = sidrefusals::test_payload(x, p);
+            match second {
+                Verdict::Failed(number) => Tested::Refused(Refusal::unplaced(number)),
+                Verdict::Passed => Tested::Passed(x, p),
+            }
         }
     }
 }
@@ -118,7 +105,7 @@ pub fn test(file: &[u8]) -> Tested
 pub fn read(file: &[u8]) -> Reading
     ensures { λ r. ⌜ told r ≡ sidOutcome (now (file .entry)) ⌝ }
 {
-    // as in verdict: past it the compiler knows that the texts are there, and unrolls the search for their ends
+    // as in test: past it the compiler knows that the texts are there, and unrolls the search for their ends
     if file.len() < SHORTEST {
         return Reading::Refused(Refusal::unplaced(refusals::TOO_SHORT));
     }

@@ -4,7 +4,7 @@ use denote.Ref.{now}
 use borrow.Author.Needs.{needs}
 use Rattle.sid.specs.Answers.{toldTested}
 use Rattle.sid.specs.Laws.{read-headed}
-use Rattle.sid.proofs.Outcomes.{too-short, all-tested}
+use Rattle.sid.proofs.Outcomes.{too-short}
 use Rattle.sid.proofs.read.Statement.{statement}
 use Rattle.sid.proofs.read.Tie as tie
 
@@ -14,7 +14,7 @@ unplaced-requires c κs = search needs
 returns : tie.Need-returns
 returns c =
     let f = now (c .before .before .before .args .file) in
-    rw (c .unplaced .ensures) (read-headed f _ (all-tested f _ (too-short f (c .before .if1 .taken))))
+    rw (c .unplaced .ensures) (read-headed f _ (too-short f (c .before .if1 .taken)))
 
 test-requires : tie.Need-test-requires
 test-requires c κs = search needs
