@@ -77,6 +77,12 @@ fn keep<T>(answer: T) {
     black_box(answer);
 }
 
+/// A call of the plain reader as the library's are, so that neither side is made part of the loop.
+#[inline(never)]
+fn apart<T>(call: impl FnOnce() -> T) -> T {
+    call()
+}
+
 /// A PSID of version 2 with a payload of this many bytes.
 fn tune(length: usize) -> Vec<u8> {
     let mut file = vec![0; 0x7C];
@@ -101,21 +107,21 @@ fn tunes() {
         1,
         &mut [()],
         |()| keep(turftangle::read(file())),
-        |()| keep(plain::sid::read(file()).map(|_| ())),
+        |()| keep(apart(|| plain::sid::read(file()).map(|_| ()))),
     );
     contest(
         "tt_sid_fields",
         1,
         &mut [[1; 21]],
         |out| keep(turftangle::fields_into(file(), black_box(out))),
-        |out| keep(plain::sid::fields_into(file(), black_box(out))),
+        |out| keep(apart(|| plain::sid::fields_into(file(), black_box(out)))),
     );
     contest(
         "tt_sid_speed",
         1,
         &mut [()],
         |()| keep(turftangle::speed(file(), black_box(3))),
-        |()| keep(plain::sid::speed(file(), black_box(3))),
+        |()| keep(apart(|| plain::sid::speed(file(), black_box(3)))),
     );
 }
 
@@ -153,7 +159,9 @@ impl Load {
 
     fn plain(&mut self) {
         let file = black_box(&self.buffer[self.file.clone()]);
-        keep(plain::sid::load(file, black_box(&mut self.memory)));
+        keep(apart(|| {
+            plain::sid::load(file, black_box(&mut self.memory))
+        }));
     }
 
     /// The payload's bytes, into the place where the load puts them.
@@ -243,7 +251,11 @@ fn songs() {
             1,
             &mut [[1; 12]],
             |out| keep(turftangle::accept_into(black_box(file), black_box(out))),
-            |out| keep(plain::mus::accept_into(black_box(file), black_box(out))),
+            |out| {
+                keep(apart(|| {
+                    plain::mus::accept_into(black_box(file), black_box(out))
+                }))
+            },
         );
     }
     listing("30,000 pairs, whole", &flat, 0, 30_000);
@@ -265,25 +277,21 @@ fn listing(what: &str, file: &[u8], first: u64, count: usize) {
             assert!(answer == Ok(count));
         },
         |(a, b)| {
-            let answer = plain::mus::list(black_box(file), 1, black_box(first), a, b);
+            let answer = apart(|| plain::mus::list(black_box(file), 1, black_box(first), a, b));
             assert!(answer == Ok(count));
         },
     );
 }
 
-// Calls as the library's are, so that neither side is made part of the loop.
-
-#[inline(never)]
 fn plain_read(first: u8, second: u8) -> u64 {
-    match plain::code::read(first, second) {
+    match apart(|| plain::code::read(first, second)) {
         Ok(code) => code.into(),
         Err(refusal) => u64::from(refusal.number) << 32,
     }
 }
 
-#[inline(never)]
 fn plain_write(code: u32) -> u64 {
-    match plain::code::write(code) {
+    match apart(|| plain::code::write(code)) {
         Ok(pair) => pair.into(),
         Err(refusal) => u64::from(refusal.number) << 32,
     }
