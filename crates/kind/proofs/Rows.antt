@@ -2,7 +2,7 @@
 -- second-as      behind 01, by the second byte's low nibble
 -- ranged-as      behind a first byte whose value has a range, by the second byte
 -- por-event, low-bad   by the first byte alone: low bits 11; low bits 00 and 01
--- apart, rest-event    low bits 10: the first bytes that the code tests one by one, and that every other is an event
+-- rest-event           low bits 10: every first byte but those that are apart is an event's
 use Prim.Native.Nat.{ℕ, _+_, _*_, _/_, _%_, _<_}
 use mathlib.Core.Path.{_≡_, refl, sym, _∙_}
 use mathlib.Core.Bool.{Bool, true, false, not, _||_}
@@ -23,6 +23,7 @@ use Rattle.command.proofs.Firsts.{isOneOf, singles, pulse-as, single-missed, jo
 use Rattle.kind.specs.declared.Kind.the-variants.{Event, Bad}
 use Rattle.kind.specs.Kinds.{kindOf}
 use Rattle.kind.specs.Bytes.{eventIf, secondKind}
+use Rattle.kind.specs.Plain.{apart}
 use Rattle.kind.specs.Laws.{sameKind, same-kind}
 
 pub second-as : (b : ℕ) → b < 256 → secondKind b ≡ kindOf (secondOutcome b)
@@ -57,10 +58,6 @@ pub low-bad : (a b : ℕ) → a < 256 → a % 4 < 2 → kindOf (otherOutcome a b
 low-bad a b h e =
     joined-kind a b h (λ p. omega arith) (λ p. omega arith) (λ p. omega arith)
     ∙ rw (ne-eqb (a % 16) 0x0A (λ p. omega arith), ne-eqb (a % 4) 3 (λ p. omega arith))
-
--- first bytes of low bits 10 whose second byte counts, or that are unassigned
-abbrev pub apart : List ℕ
-apart = 0x36 ∷ 0x76 ∷ 0xC6 ∷ 0xD6 ∷ 0x6E ∷ 0xA6 ∷ 0x2E ∷ 0xBE ∷ 0xFE ∷ 0x8E ∷ 0xAE ∷ 0xCE ∷ 0xEE ∷ []
 
 -- the others of low nibbles 6 and E
 abbrev plain : List ℕ
