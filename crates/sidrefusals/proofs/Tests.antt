@@ -2,12 +2,16 @@
 -- same                    the law
 -- both, -left, -right     what `&&` holds of
 -- few-after, none-after   how many bytes lie past a place, without a difference
+-- no-payload              test 9 without a difference
 use Prim.Native.Nat.{ℕ, _+_, _-_, _<_}
 use mathlib.Core.Path.{_≡_, refl, sym}
-use mathlib.Core.Bool.{Bool, true, false, _&&_}
+use mathlib.Core.Bool.{Bool, true, false, not, _&&_, _||_}
 use native.Mathlib.Omega.{arith}
-use lib.Dec.{ltb, leb, eqb}
+use lib.Dec.{ltb, leb, eqb, lit<}
 use borrow.Author.Tests.{ltb-true, leb-true, eqb-true, lt-ltb, le-leb, eq-eqb}
+use Rattle.sidheader.specs.declared.Fields.{Fields}
+use Rattle.sidheader.specs.Payload.{addressed}
+use Rattle.sidrefusals.specs.PayloadTests.{dataBytes}
 
 pub same : (a b : Bool) → (a ≡ true → b ≡ true) → (b ≡ true → a ≡ true) → a ≡ b
 same true true f g = refl
@@ -37,3 +41,8 @@ module _ (size m : ℕ) where
   none-after = same (eqb (size - m) 0) (leb size m)
       (λ e. let p = eqb-true (size - m) 0 e in le-leb size m (omega arith))
       (λ e. let p = leb-true size m e in eq-eqb (size - m) 0 (omega arith))
+
+pub no-payload : (x : Fields)
+    → addressed x && ltb (dataBytes x) 3 || not (addressed x) && eqb (dataBytes x) 0
+    ≡ addressed x && ltb (x .size) (x .offset + 3) || not (addressed x) && leb (x .size) (x .offset)
+no-payload x = rw (few-after (x .size) (x .offset) 3 (lit< tt), none-after (x .size) (x .offset))

@@ -17,24 +17,37 @@ pub fn test_header(x: Fields) -> Verdict
     let rsid = x.magic == sidheader::RSID;
     let one = x.version == 1;
     let two = x.version == 2;
-    let reserved = (x.load != 0) | (x.play != 0) | (x.speed != 0);
+    let short = x.size < 118;
+    let magic = !psid & !rsid;
+    let version = !(one | two) | rsid & !two;
+    let short_of_two = two & (x.size < 124);
+    let offset = one & (x.offset != 0x76) | two & (x.offset != 0x7C);
+    let reserved = rsid & ((x.load != 0) | (x.play != 0) | (x.speed != 0));
     let songs = (x.songs == 0) | (256 < x.songs) | (x.songs < x.start);
-    Verdict::Passed
-        .test(x.size < 118, refusals::TOO_SHORT)
-        .test(!psid & !rsid, refusals::MAGIC)
-        .test(!(one | two) | rsid & !two, refusals::VERSION)
-        .test(two & (x.size < 124), refusals::TOO_SHORT)
-        .test(
-            one & (x.offset != 0x76) | two & (x.offset != 0x7C),
-            refusals::DATA_OFFSET,
-        )
-        .test(rsid & reserved, refusals::RSID_RESERVED)
-        .test(songs, refusals::SONGS)
-        .test(
-            (x.flags / 64 != 0) | (x.reserved != 0),
-            refusals::RESERVED_BITS,
-        )
-        .test(x.flags % 2 == 1, refusals::MUS_PAYLOAD)
+    let bits = (x.flags / 64 != 0) | (x.reserved != 0);
+    let music = x.flags % 2 == 1;
+    // a branch at each test, for speed: made without one, all of them are made (docs/SPEED.md)
+    if short {
+        Verdict::Failed(refusals::TOO_SHORT)
+    } else if magic {
+        Verdict::Failed(refusals::MAGIC)
+    } else if version {
+        Verdict::Failed(refusals::VERSION)
+    } else if short_of_two {
+        Verdict::Failed(refusals::TOO_SHORT)
+    } else if offset {
+        Verdict::Failed(refusals::DATA_OFFSET)
+    } else if reserved {
+        Verdict::Failed(refusals::RSID_RESERVED)
+    } else if songs {
+        Verdict::Failed(refusals::SONGS)
+    } else if bits {
+        Verdict::Failed(refusals::RESERVED_BITS)
+    } else if music {
+        Verdict::Failed(refusals::MUS_PAYLOAD)
+    } else {
+        Verdict::Passed
+    }
 }
 
 // internal: the effective init address.
@@ -79,15 +92,17 @@ fn has_bad_pages(x: Fields, p: Payload) -> bool
     let start = x.page;
     let count = x.pages;
     let load = p.load as usize;
+    if (start == 0) | (start == 0xFF) {
+        return count != 0;
+    }
     let last = last_page(load, p.len);
     let touched = meets(start, count, load / 256, last);
     let low = meets(start, count, 0x00, 0x03);
     let rom = meets(start, count, 0xA0, 0xBF);
     let high = meets(start, count, 0xD0, 0xFF);
     let taken = touched | (x.magic == sidheader::RSID) & (low | rom | high);
-    let unstated = (start == 0) | (start == 0xFF);
     let over = 256 < start as usize + count as usize;
-    unstated & (count != 0) | !unstated & ((count == 0) | over | taken)
+    (count == 0) | over | taken
 }
 
 // internal: the tests of where the payload lies, 9 to 13.
@@ -101,19 +116,22 @@ pub fn test_payload(x: Fields, p: Payload) -> Verdict
     let rsid = x.magic == sidheader::RSID;
     let own = x.load == 0;
     let basic = x.flags / 2 % 2 == 1;
-    let init = init_of(x, p);
-    let barred = is_barred_init(init);
-    let pages = has_bad_pages(x, p);
-    Verdict::Passed
-        .test(
-            own & (size < offset + 3) | !own & (size <= offset),
-            refusals::NO_PAYLOAD,
-        )
-        .test(65536 < load + p.len, refusals::PAST_MEMORY)
-        .test(rsid & (load < 0x07E8), refusals::RSID_LOAD)
-        .test(
-            rsid & (basic & (x.init != 0) | !basic & barred),
-            refusals::RSID_INIT,
-        )
-        .test(pages, refusals::FREE_PAGES)
+    let none = own & (size < offset + 3) | !own & (size <= offset);
+    let past = 65536 < load + p.len;
+    let low = rsid & (load < 0x07E8);
+    let barred = is_barred_init(init_of(x, p));
+    let init = rsid & (basic & (x.init != 0) | !basic & barred);
+    if none {
+        Verdict::Failed(refusals::NO_PAYLOAD)
+    } else if past {
+        Verdict::Failed(refusals::PAST_MEMORY)
+    } else if low {
+        Verdict::Failed(refusals::RSID_LOAD)
+    } else if init {
+        Verdict::Failed(refusals::RSID_INIT)
+    } else if has_bad_pages(x, p) {
+        Verdict::Failed(refusals::FREE_PAGES)
+    } else {
+        Verdict::Passed
+    }
 }

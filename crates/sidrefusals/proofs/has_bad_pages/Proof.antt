@@ -1,4 +1,5 @@
 -- `has_bad_pages` meets its contract: the pages that are taken, range by range. Assumes nothing.
+use mathlib.Core.Bool.{or-false}
 use borrow.Author.Needs.{needs}
 use Rattle.sidrefusals.specs.Pages.{badPages, touched}
 use Rattle.sidrefusals.specs.HeaderTests.{isRsid}
@@ -8,6 +9,10 @@ use Rattle.sidrefusals.proofs.has_bad_pages.Tie as tie
 
 cast-load : tie.Need-cast-load
 cast-load c = search needs
+
+returns : tie.Need-returns
+unfolding badPages
+returns c = rw (c .if1 .taken, or-false _)
 
 last-page-requires : tie.Need-last-page-requires
 last-page-requires c κs = search needs
@@ -33,11 +38,12 @@ cast-over-2 c = search needs
 add-over : tie.Need-add-over
 add-over c = search needs
 
-returns : tie.Need-returns
+returns-2 : tie.Need-returns-2
 unfolding badPages
-returns c =
-    let a = c .before .before .before .before .before .before .before .args in
+returns-2 c =
+    let a = c .before .before .before .before .before .before .before .before .args in
     rw (
+      c .before .before .before .before .before .before .if1 .left,
       any-taken (a .x .page) (a .x .pages) (touched (a .p)) (isRsid (a .x)),
       c .before .meets4 .ensures,
       c .before .before .meets3 .ensures,
@@ -51,6 +57,7 @@ has-bad-pages-spec =
     tie.close
     (tie.spec
     cast-load
+    returns
     last-page-requires
     meets-requires
     meets-requires-2
@@ -59,4 +66,4 @@ has-bad-pages-spec =
     cast-over
     cast-over-2
     add-over
-    returns)
+    returns-2)

@@ -1,62 +1,36 @@
--- `test_header` meets its contract: tests made one by one come to what the list comes to. Assumes nothing.
-use borrow.Author.Needs.{needs}
-use Rattle.sidrefusals.specs.HeaderTests.{headerTests}
-use Rattle.refusals.specs.Laws.{tested-first}
+-- `test_header` meets its contract: the branch taken is at the first test that applies. Assumes nothing.
 use Rattle.sidrefusals.proofs.test_header.Statement.{statement}
 use Rattle.sidrefusals.proofs.test_header.Tie as tie
 
-test-requires : tie.Need-test-requires
-test-requires c κs = search needs
-
-test-requires-2 : tie.Need-test-requires-2
-test-requires-2 c κs = search needs
-
-test-requires-3 : tie.Need-test-requires-3
-test-requires-3 c κs = search needs
-
-test-requires-4 : tie.Need-test-requires-4
-test-requires-4 c κs = search needs
-
-test-requires-5 : tie.Need-test-requires-5
-test-requires-5 c κs = search needs
-
-test-requires-6 : tie.Need-test-requires-6
-test-requires-6 c κs = search needs
-
-test-requires-7 : tie.Need-test-requires-7
-test-requires-7 c κs = search needs
-
-test-requires-8 : tie.Need-test-requires-8
-test-requires-8 c κs = search needs
-
-test-requires-9 : tie.Need-test-requires-9
-test-requires-9 c κs = search needs
-
 returns : tie.Need-returns
-returns c =
-    rw (
-      c .test9 .ensures,
-      c .before .before .test8 .ensures,
-      c .before .before .before .before .before .test7 .ensures,
-      c .before .before .before .before .before .before .test6 .ensures,
-      c .before .before .before .before .before .before .before .test5 .ensures,
-      c .before .before .before .before .before .before .before .before .before .before .test4 .ensures,
-      c .before .before .before .before .before .before .before .before .before .before .before .before .test3 .ensures,
-      c .before .before .before .before .before .before .before .before .before .before .before .before .before .test2 .ensures,
-      c .before .before .before .before .before .before .before .before .before .before .before .before .before .before .test .ensures,
-    ) (tested-first (headerTests (c .before .before .before .before .before .before .before .before .before .before .before .before .before .before .before .before .before .before .before .before .before .before .before .before .before .before .args .x)))
+returns c = rw (c .if1 .taken)
+
+returns-2 : tie.Need-returns-2
+returns-2 c = rw (c .before .if1 .left, c .if2 .taken)
+
+returns-3 : tie.Need-returns-3
+returns-3 c = rw (c .before .before .if1 .left, c .before .if2 .left, c .if3 .taken)
+
+returns-4 : tie.Need-returns-4
+returns-4 c = rw (c .before .before .before .if1 .left, c .before .before .if2 .left, c .before .if3 .left, c .if4 .taken)
+
+returns-5 : tie.Need-returns-5
+returns-5 c = rw (c .before .before .before .before .if1 .left, c .before .before .before .if2 .left, c .before .before .if3 .left, c .before .if4 .left, c .if5 .taken)
+
+returns-6 : tie.Need-returns-6
+returns-6 c = rw (c .before .before .before .before .before .if1 .left, c .before .before .before .before .if2 .left, c .before .before .before .if3 .left, c .before .before .if4 .left, c .before .if5 .left, c .if6 .taken)
+
+returns-7 : tie.Need-returns-7
+returns-7 c = rw (c .before .before .before .before .before .before .if1 .left, c .before .before .before .before .before .if2 .left, c .before .before .before .before .if3 .left, c .before .before .before .if4 .left, c .before .before .if5 .left, c .before .if6 .left, c .if7 .taken)
+
+returns-8 : tie.Need-returns-8
+returns-8 c = rw (c .before .before .before .before .before .before .before .if1 .left, c .before .before .before .before .before .before .if2 .left, c .before .before .before .before .before .if3 .left, c .before .before .before .before .if4 .left, c .before .before .before .if5 .left, c .before .before .if6 .left, c .before .if7 .left, c .if8 .taken)
+
+returns-9 : tie.Need-returns-9
+returns-9 c = rw (c .before .before .before .before .before .before .before .before .if1 .left, c .before .before .before .before .before .before .before .if2 .left, c .before .before .before .before .before .before .if3 .left, c .before .before .before .before .before .if4 .left, c .before .before .before .before .if5 .left, c .before .before .before .if6 .left, c .before .before .if7 .left, c .before .if8 .left, c .if9 .taken)
+
+returns-10 : tie.Need-returns-10
+returns-10 c = rw (c .before .before .before .before .before .before .before .before .if1 .left, c .before .before .before .before .before .before .before .if2 .left, c .before .before .before .before .before .before .if3 .left, c .before .before .before .before .before .if4 .left, c .before .before .before .before .if5 .left, c .before .before .before .if6 .left, c .before .before .if7 .left, c .before .if8 .left, c .if9 .left)
 
 pub test-header-spec : {M : Type 1} → statement M
-test-header-spec =
-    tie.close
-    (tie.spec
-    test-requires
-    test-requires-2
-    test-requires-3
-    test-requires-4
-    test-requires-5
-    test-requires-6
-    test-requires-7
-    test-requires-8
-    test-requires-9
-    returns)
+test-header-spec = tie.close (tie.spec returns returns-2 returns-3 returns-4 returns-5 returns-6 returns-7 returns-8 returns-9 returns-10)
