@@ -111,7 +111,11 @@ pub extern "C" fn tt_mus_list(
 pub extern "C" fn tt_pair_read(first: u8, second: u8) -> u64
     ensures { λ r. ⌜ r ≡ packed codeOf (meaningOf first second) ⌝ }
 {
-    match pair::read(first, second) {
+    // as pair::read does; a note and a command that come to one place here, and not there, are not packed into one value first
+    if first % 4 == 0 {
+        return codes::notes::note_code(note::read_note(first, second));
+    }
+    match command::read_command(first, second) {
         Reading::Refused(x) => answers::refused(x),
         Reading::Means(m) => codes::code_of(m),
     }

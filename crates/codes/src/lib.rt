@@ -9,7 +9,7 @@ use meaning::Reading;
 use refusals::Refusal;
 
 mod commands;
-mod notes;
+pub mod notes;
 
 // internal: no pair has this meaning.
 pub fn none() -> Reading
