@@ -1,6 +1,7 @@
 -- A body read in one pass, pair by pair: the loop of the recursive reading.
 -- Sum             its invariant: what the rest of the body comes to, behind the counts so far, is what the whole body comes to
--- sum-start, step, sum-end   its start, a step over a part of the body, and its end
+-- sum-start, step, joined, sum-end   its start, a step over a part of the body, one that joins the part's counts, and its end
+-- running         the counts so far leave room for more
 -- event-step, call-step, repeat-step, phrase-step   the steps of each kind of pair
 -- deeper, call-deep, repeat-deep, none-deep, phrase-deep   where the allowance is too small
 -- close-end, stop-end   the body closed by a TAL or an END, and by the voice's end
@@ -16,11 +17,11 @@ use Rattle.bodies.specs.Places.{openAt, bodyAt}
 use Rattle.bodies.proofs.Stored.{open-end}
 use Rattle.counts.specs.declared.count.Counts.{Counts}
 use Rattle.counts.specs.declared.Extent.{Extent}
-use Rattle.counts.specs.Counting.{join, none, single, passes, standing, again, counting}
-use Rattle.counts.specs.Small.{Small, coded}
+use Rattle.counts.specs.Counting.{join, none, more, passes, standing, again, counting}
+use Rattle.counts.specs.Small.{Small, Running, coded}
 use Rattle.counts.specs.Measures.{heldIn, Cells, readAt, Measures}
 use Rattle.counts.proofs.Kept.{keep-held}
-use Rattle.counts.proofs.Sums.{join-assoc, join-none, none-join, small-join}
+use Rattle.counts.proofs.Sums.{join-assoc, none-join, more-join, small-join}
 
 pub record Sum (bs cells₀ : List ℕ) (c from : ℕ) (sum : Counts) (at : ℕ) (cells : List ℕ) : Type 0 where
   pub later : from ≤ at
@@ -28,14 +29,15 @@ pub record Sum (bs cells₀ : List ℕ) (c from : ℕ) (sum : Counts) (at : ℕ)
   pub closes : outer (openAt (pairs bs) at) ≡ outer (openAt (pairs bs) from)
   pub total : join sum (readAt bs (heldIn cells) at .total) ≡ readAt bs (heldIn cells₀) from .total
   pub phrases : readAt bs (heldIn cells) at .phrases ≡ readAt bs (heldIn cells₀) from .phrases
-  pub small : Small sum
+  pub events : sum .events ≤ 1048577 + at
+  pub walked : sum .walked ≤ 1048577 + at
   pub low : sum .depth ≤ c
   pub cells-ready : Cells cells
 
 -- counts of a body have stopped where they should
 none-total : (held : ℕ → Counts) (b : Body) → join none (reading counting held b .total) ≡ reading counting held b .total
-unfolding reading
-none-total held (done x) = join-none none (record { events = omega arith; walked = omega arith; depth = omega arith })
+unfolding reading join
+none-total held (done x) = refl
 none-total held (event x r) = none-join _ _
 none-total held (repeat n i r) = none-join _ _
 none-total held (phrase k i r) = none-join _ _
@@ -51,29 +53,51 @@ sum-start bs cells c from sum e h s =
       closes = refl;
       total = none-total (heldIn cells) (bodyAt (pairs bs) from);
       phrases = refl;
-      small = record { events = omega arith; walked = omega arith; depth = omega arith };
+      events = omega arith;
+      walked = omega arith;
       low = omega arith;
       cells-ready = s;
     }
 
 module _ (bs cells₀ : List ℕ) (c from : ℕ) (sum : Counts) (at : ℕ) (cells : List ℕ) (s : Sum bs cells₀ c from sum at cells) (low : c ≤ 16) where
+  -- at most an event for each pair went without the stop
+  pub running : length bs ≤ 65536 → Running sum
+  running h =
+      record {
+        events = omega (arith, s .events, s .inside);
+        walked = omega (arith, s .walked, s .inside);
+        depth = omega (arith, s .low);
+      }
+
   -- a part of the body goes by, and then the rest is that of next
-  step : (sum′ part : Counts) (next : ℕ) (cells′ : List ℕ) → at < next → next ≤ length bs / 2 + 1
+  step : (sum′ : Counts) (next : ℕ) (cells′ : List ℕ) → at < next → next ≤ length bs / 2 + 1
       → outer (openAt (pairs bs) at) ≡ outer (openAt (pairs bs) next)
-      → readAt bs (heldIn cells) at .total ≡ join part (readAt bs (heldIn cells′) next .total)
+      → join sum′ (readAt bs (heldIn cells′) next .total) ≡ join sum (readAt bs (heldIn cells) at .total)
       → readAt bs (heldIn cells) at .phrases ≡ readAt bs (heldIn cells′) next .phrases
-      → part .depth ≤ c → Cells cells′ → sum′ ≡ join sum part → Sum bs cells₀ c from sum′ next cells′
-  step sum′ part next cells′ l i closes total phrases deep ready e =
+      → sum′ .events ≤ 1048577 + next → sum′ .walked ≤ 1048577 + next → sum′ .depth ≤ c → Cells cells′ → Sum bs cells₀ c from sum′ next cells′
+  step sum′ next cells′ l i closes total phrases events walked deep ready =
       record {
         later = omega (arith, s .later);
         inside = i;
         closes = sym closes ∙ s .closes;
-        total = rw e (join-assoc sum part (readAt bs (heldIn cells′) next .total) ∙ ap (join sum) (sym total) ∙ s .total);
+        total = total ∙ s .total;
         phrases = sym phrases ∙ s .phrases;
-        small = subst Small (sym e) (small-join sum part (s .small .depth) (omega arith));
-        low = rw e (unfold join in omega (arith, s .low));
+        events = events;
+        walked = walked;
+        low = deep;
         cells-ready = ready;
       }
+
+  -- the same where the part's counts are joined
+  joined : (sum′ part : Counts) (next : ℕ) (cells′ : List ℕ) → at < next → next ≤ length bs / 2 + 1
+      → outer (openAt (pairs bs) at) ≡ outer (openAt (pairs bs) next)
+      → readAt bs (heldIn cells) at .total ≡ join part (readAt bs (heldIn cells′) next .total)
+      → readAt bs (heldIn cells) at .phrases ≡ readAt bs (heldIn cells′) next .phrases
+      → part .depth ≤ c → Cells cells′ → sum′ ≡ join sum part → Sum bs cells₀ c from sum′ next cells′
+  joined sum′ part next cells′ l i closes total phrases deep ready e =
+      let small = small-join sum part (omega (arith, s .low)) (omega arith) in
+      step sum′ next cells′ l i closes (rw e (join-assoc sum part (readAt bs (heldIn cells′) next .total) ∙ ap (join sum) (sym total))) phrases
+      (rw e (omega (arith, small .events))) (rw e (omega (arith, small .walked))) (rw e (unfold join in omega (arith, s .low))) ready
 
   -- a part of the rest that is too deep makes the whole too deep
   deeper : c < readAt bs (heldIn cells) at .total .depth → c < readAt bs (heldIn cells₀) from .total .depth
@@ -95,19 +119,21 @@ module _ (bs cells₀ : List ℕ) (c from : ℕ) (sum : Counts) (at : ℕ) (cell
   unfolding outer
   around b bs′ q = rw q
 
-  pub event-step : (x : Event) (sum′ : Counts) → at < length bs / 2 → openAt (pairs bs) at ≡ event x (inner next) ∷ outer next → sum′ ≡ join sum single
+  pub event-step : (x : Event) (sum′ : Counts) → at < length bs / 2 → openAt (pairs bs) at ≡ event x (inner next) ∷ outer next → sum′ ≡ more sum
       → Sum bs cells₀ c from sum′ (at + 1) cells
   unfolding reading readAt bodyAt
   event-step x sum′ h q g =
       let r = read-as (event x (inner next)) (outer next) q in
-      step sum′ single (at + 1) cells (omega arith) (omega arith) (around (event x (inner next)) (outer next) q) (ap (λ (y : Read Counts). y .total) r) (ap (λ (y : Read Counts). y .phrases) r) (omega arith) (s .cells-ready) g
+      step sum′ (at + 1) cells (omega arith) (omega arith) (around (event x (inner next)) (outer next) q)
+      (rw g (more-join sum (readAt bs held (at + 1) .total) ∙ ap (λ (y : Read Counts). join sum (y .total)) (sym r)))
+      (ap (λ (y : Read Counts). y .phrases) r) (rw g (omega (arith, s .events))) (rw g (omega (arith, s .walked))) (rw g (s .low)) (s .cells-ready)
 
   pub call-step : (k : ℕ) (kept sum′ : Counts) → at < length bs / 2 → openAt (pairs bs) at ≡ call k (inner next) ∷ outer next → kept ≡ held k → kept .depth < c → sum′ ≡ join sum (again kept)
       → Sum bs cells₀ c from sum′ (at + 1) cells
   unfolding reading readAt bodyAt
   call-step k kept sum′ h q p l g =
       let r = read-as (call k (inner next)) (outer next) q in
-      step sum′ (again kept) (at + 1) cells (omega arith) (omega arith) (around (call k (inner next)) (outer next) q)
+      joined sum′ (again kept) (at + 1) cells (omega arith) (omega arith) (around (call k (inner next)) (outer next) q)
       (ap (λ (y : Read Counts). y .total) r ∙ ap (λ (x : Counts). join (again x) (reading counting held (inner next) .total)) (sym p)) (ap (λ (y : Read Counts). y .phrases) r)
       (omega arith) (s .cells-ready) g
 
@@ -140,7 +166,7 @@ module _ (bs cells₀ : List ℕ) (c from : ℕ) (sum : Counts) (at : ℕ) (cell
   repeat-step n m cells′ sum′ q p g h =
       let b = repeat n (inner next) (inner (outer next)) in
       let r = read-as b (outer (outer next)) q in
-      step sum′ (passes n (m .counts)) (m .at + 1) cells′ (omega (arith, g .later)) (omega (arith, g .inside)) (around b (outer (outer next)) q ∙ ap outer (g .closes))
+      joined sum′ (passes n (m .counts)) (m .at + 1) cells′ (omega (arith, g .later)) (omega (arith, g .inside)) (around b (outer (outer next)) q ∙ ap outer (g .closes))
       (ap (λ (y : Read Counts). y .total) r ∙ rw (g .counts, g .phrases, sym (g .closes)))
       (ap (λ (y : Read Counts). y .phrases) r ∙ rw (g .phrases, sym (g .closes)))
       (omega (arith, g .low)) (g .cells-ready) h
@@ -152,36 +178,37 @@ module _ (bs cells₀ : List ℕ) (c from : ℕ) (sum : Counts) (at : ℕ) (cell
       let kept = keep-held cells′ k (m .counts) x (g .cells-ready) few (g .small) t in
       let b = phrase k (inner next) (inner (outer next)) in
       let r = read-as b (outer (outer next)) q in
-      step sum′ (standing (m .counts)) (m .at + 1) (set cells′ k x) (omega (arith, g .later)) (omega (arith, g .inside)) (around b (outer (outer next)) q ∙ ap outer (g .closes))
+      joined sum′ (standing (m .counts)) (m .at + 1) (set cells′ k x) (omega (arith, g .later)) (omega (arith, g .inside)) (around b (outer (outer next)) q ∙ ap outer (g .closes))
       (ap (λ (y : Read Counts). y .total) r ∙ rw (kept .0, g .counts, g .phrases, sym (g .closes)))
       (ap (λ (y : Read Counts). y .phrases) r ∙ rw (kept .0, g .counts, g .phrases, sym (g .closes)))
       (omega (arith, g .low)) (kept .1) h
 
   -- nothing is left of the body
-  sum-end : (p : ℕ) (x : Closer) → inner (openAt (pairs bs) at) ≡ done x → outer (openAt (pairs bs) at) ≡ openAt (pairs bs) (p + 1) → from ≤ p → p ≤ length bs / 2
-      → Measures bs cells₀ c from (record { counts = sum; at = p }) cells
+  sum-end : (sum′ : Counts) (p : ℕ) (x : Closer) → sum′ ≡ join sum none → inner (openAt (pairs bs) at) ≡ done x → outer (openAt (pairs bs) at) ≡ openAt (pairs bs) (p + 1) → from ≤ p → p ≤ length bs / 2
+      → Measures bs cells₀ c from (record { counts = sum′; at = p }) cells
   unfolding reading readAt bodyAt
-  sum-end p x q o l i =
+  sum-end sum′ p x e q o l i =
       let total : readAt bs held at .total ≡ none = rw q in
       let phrases : readAt bs held at .phrases ≡ held = rw q in
       record {
-        counts = sym (join-none sum (s .small)) ∙ ap (join sum) (sym total) ∙ s .total;
+        counts = e ∙ ap (join sum) (sym total) ∙ s .total;
         phrases = sym phrases ∙ s .phrases;
         closes = sym (s .closes) ∙ o;
         later = l;
         inside = i;
-        small = s .small;
-        low = s .low;
+        small = subst Small (sym e) (small-join sum none (omega (arith, s .low)) (omega arith));
+        low = rw e (unfold join in omega (arith, s .low));
         cells-ready = s .cells-ready;
       }
 
-  pub close-end : (x : Closer) → at < length bs / 2 → openAt (pairs bs) at ≡ done x ∷ next → Measures bs cells₀ c from (record { counts = sum; at = at }) cells
+  pub close-end : (sum′ : Counts) (x : Closer) → sum′ ≡ join sum none → at < length bs / 2 → openAt (pairs bs) at ≡ done x ∷ next
+      → Measures bs cells₀ c from (record { counts = sum′; at = at }) cells
   unfolding inner outer
-  close-end x h q = sum-end at x (rw q) (rw q) (s .later) (omega arith)
+  close-end sum′ x e h q = sum-end sum′ at x e (rw q) (rw q) (s .later) (omega arith)
 
-  pub stop-end : length bs / 2 ≤ at → from ≤ length bs / 2 → Measures bs cells₀ c from (record { counts = sum; at = length bs / 2 }) cells
+  pub stop-end : (sum′ : Counts) → sum′ ≡ join sum none → length bs / 2 ≤ at → from ≤ length bs / 2 → Measures bs cells₀ c from (record { counts = sum′; at = length bs / 2 }) cells
   unfolding inner outer
-  stop-end h l =
+  stop-end sum′ e h l =
       let ended = open-end bs at h in
       let beyond = open-end bs (length bs / 2 + 1) (omega arith) in
-      sum-end (length bs / 2) byStop (rw ended) (rw (ended, beyond)) l (omega arith)
+      sum-end sum′ (length bs / 2) byStop e (rw ended) (rw (ended, beyond)) l (omega arith)

@@ -1,13 +1,14 @@
 -- Counts added up: laws of join, and bounds.
 -- product        n passes over a body fit their number
--- join-single, join-assoc, join-none, none-join   join is a sum that stops at the cap
+-- join-assoc, none-join   join is a sum that stops at the cap
+-- more-join      where the stop comes later, an event added without it is an event joined
 -- small-join     what it gives is small again
 use Prim.Native.Nat.{ℕ, _*_, _<_, _≤_}
 use mathlib.Core.Path.{_≡_}
 use native.Mathlib.Nat.{mul-le-mul}
 use native.Mathlib.Omega.{arith}
 use Rattle.counts.specs.declared.count.Counts.{Counts}
-use Rattle.counts.specs.Counting.{join, none}
+use Rattle.counts.specs.Counting.{join, none, single, more}
 use Rattle.counts.specs.Small.{Small}
 
 pub product : (n x : ℕ) → n < 256 → x ≤ 1048578 → n * x ≤ 267387390
@@ -23,14 +24,13 @@ pub join-assoc : (a b c : Counts) → join (join a b) c ≡ join a (join b c)
 unfolding join
 join-assoc a b c = same-counts (join (join a b) c) (join a (join b c)) (omega arith) (omega arith) (omega arith)
 
--- counts that have stopped where they should stay as they are with nothing more
-pub join-none : (a : Counts) → Small a → join a none ≡ a
-unfolding join
-join-none a s = same-counts (join a none) a (omega (arith, s .events)) (omega (arith, s .walked)) (omega arith)
-
 pub none-join : (a b : Counts) → join none (join a b) ≡ join a b
 unfolding join
 none-join a b = same-counts (join none (join a b)) (join a b) (omega arith) (omega arith) (omega arith)
+
+pub more-join : (a b : Counts) → join (more a) b ≡ join a (join single b)
+unfolding join
+more-join a b = same-counts (join (more a) b) (join a (join single b)) (omega arith) (omega arith) (omega arith)
 
 pub small-join : (a b : Counts) → a .depth ≤ 16 → b .depth ≤ 16 → Small (join a b)
 unfolding join

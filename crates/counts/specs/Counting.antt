@@ -2,6 +2,7 @@
 -- than 33 lets pass; proofs/Capped.antt shows that this never shows in an answer.
 -- cap, join      two counts, one behind the other
 -- none, single   of nothing, and of an event
+-- more           an event more, with no stop: a voice is too short to need one at each event
 -- passes         'repeat 1 + n × (body + 1)', and one deeper
 -- standing       'DEF to END, body + 2'
 -- again          'CAL, body + 2', and one deeper
@@ -22,6 +23,9 @@ none = record { events = 0; walked = 0; depth = 0 }
 
 abbrev pub single : Counts
 single = record { events = 1; walked = 1; depth = 0 }
+
+abbrev pub more : Counts → Counts
+more a = record { events = a .events + 1; walked = a .walked + 1; depth = a .depth }
 
 abbrev pub passes : ℕ → Counts → Counts
 passes n b = record { events = n * b .events; walked = 1 + n * (b .walked + 1); depth = 1 + b .depth }

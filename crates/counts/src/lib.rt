@@ -66,10 +66,16 @@ fn measure(voice: &[u8], cells: &mut [u64; 24], allowance: u32, from: usize) -> 
                 sum = count::with_call(sum, c);
                 at += 1;
             }
-            Part::Close => return Measured::Body(Extent { counts: sum, at }),
+            Part::Close => return Measured::Body(Extent {
+                counts: count::settled(sum),
+                at,
+            }),
         }
     }
-    Measured::Body(Extent { counts: sum, at: n })
+    Measured::Body(Extent {
+        counts: count::settled(sum),
+        at: n,
+    })
 }
 
 // What a voice comes to: its events and pairs walked, or the number of the first of 32 and 33 that applies.

@@ -11,12 +11,13 @@ use Rattle.bodies.specs.Places.{IsPart}
 use Rattle.bodies.proofs.part_at.Reads as part-at-reads
 use Rattle.counts.specs.Small.{Small}
 use Rattle.counts.specs.Measures.{Measures, Right}
-use Rattle.counts.proofs.Readings.{Sum, sum-start, event-step, call-step, call-deep, repeat-step, repeat-deep, phrase-step, phrase-deep, close-end, stop-end}
+use Rattle.counts.proofs.Readings.{Sum, sum-start, running, event-step, call-step, call-deep, repeat-step, repeat-deep, phrase-step, phrase-deep, close-end, stop-end}
 use Rattle.counts.proofs.measure.Reads as measure
 use Rattle.counts.proofs.measure.Kinds as measure-kinds
 use Rattle.counts.proofs.count.coded.Reads as coded-reads
 use Rattle.counts.proofs.count.decoded.Reads as decoded-reads
 use Rattle.counts.proofs.count.nothing.Reads as nothing-reads
+use Rattle.counts.proofs.count.settled.Reads as settled-reads
 use Rattle.counts.proofs.count.with_call.Reads as with-call-reads
 use Rattle.counts.proofs.count.with_event.Reads as with-event-reads
 use Rattle.counts.proofs.count.with_phrase.Reads as with-phrase-reads
@@ -55,6 +56,8 @@ claims t = (
   decoded-reads.Learnt,
   with-call-reads.Asked,
   with-call-reads.Learnt,
+  settled-reads.Asked,
+  settled-reads.Learnt,
 )
 
 abbrev Inv-loop : lts.InvT-loop
@@ -73,7 +76,7 @@ part-at-requires t c κs =
 
 with-event-requires : (t : ℕ) → lts.Need-with-event-requires (claims t) (at t) measure.Post Inv-loop μ-loop
 with-event-requires t c κs =
-    c .before .before .before .before .loop .inv .small
+    running _ _ _ _ _ _ _ (c .before .before .before .before .loop .inv) (c .before .before .before .before .before .before .before .pre .1 .low) (c .before .before .before .before .before .before .before .pre .1 .short)
 
 add-at : (t : ℕ) → lts.Need-add-at (claims t) (at t) measure.Post Inv-loop μ-loop
 add-at t c =
@@ -111,7 +114,7 @@ returns-2 t c =
 with-repeat-requires : (t : ℕ) → lts.Need-with-repeat-requires (claims t) (at t) measure.Post Inv-loop μ-loop
 with-repeat-requires t c κs =
     let g : Measures _ _ _ _ (c .before .m .given .0 .0) _ = subst (Right _ _ _ _ _) (c .before .m .given .1) (c .before .before .before .measure .ensures) in
-    (c .before .before .before .before .before .before .before .before .before .before .before .loop .inv .small, g .small, (subst (IsPart _ _) (c .before .before .before .before .before .before .before .times .given .1) (c .before .before .before .before .before .before .before .before .before .part-at .ensures)) .1)
+    (running _ _ _ _ _ _ _ (c .before .before .before .before .before .before .before .before .before .before .before .loop .inv) (c .before .before .before .before .before .before .before .before .before .before .before .before .before .before .pre .1 .low) (c .before .before .before .before .before .before .before .before .before .before .before .before .before .before .pre .1 .short), g .small, (subst (IsPart _ _) (c .before .before .before .before .before .before .before .times .given .1) (c .before .before .before .before .before .before .before .before .before .part-at .ensures)) .1)
 
 add-at-2 : (t : ℕ) → lts.Need-add-at-2 (claims t) (at t) measure.Post Inv-loop μ-loop
 add-at-2 t c =
@@ -160,7 +163,7 @@ element-write-cells t c =
 with-phrase-requires : (t : ℕ) → lts.Need-with-phrase-requires (claims t) (at t) measure.Post Inv-loop μ-loop
 with-phrase-requires t c κs =
     let g : Measures _ _ _ _ (c .before .before .m2 .given .0 .0) _ = subst (Right _ _ _ _ _) (c .before .before .m2 .given .1) (c .before .before .before .before .measure2 .ensures) in
-    (c .before .before .before .before .before .before .before .before .before .before .before .loop .inv .small, g .small)
+    (running _ _ _ _ _ _ _ (c .before .before .before .before .before .before .before .before .before .before .before .loop .inv) (c .before .before .before .before .before .before .before .before .before .before .before .before .before .before .pre .1 .low) (c .before .before .before .before .before .before .before .before .before .before .before .before .before .before .pre .1 .short), g .small)
 
 add-at-3 : (t : ℕ) → lts.Need-add-at-3 (claims t) (at t) measure.Post Inv-loop μ-loop
 add-at-3 t c =
@@ -195,7 +198,7 @@ returns-4 t c =
 
 with-call-requires : (t : ℕ) → lts.Need-with-call-requires (claims t) (at t) measure.Post Inv-loop μ-loop
 with-call-requires t c κs =
-    (c .before .before .before .before .before .before .before .before .before .loop .inv .small, subst Small (sym (c .before .before .decoded .ensures)) (c .before .before .before .before .before .before .before .before .before .loop .inv .cells-ready .small (c .before .before .before .before .before .k2 .given .0 .0)))
+    (running _ _ _ _ _ _ _ (c .before .before .before .before .before .before .before .before .before .loop .inv) (c .before .before .before .before .before .before .before .before .before .before .before .before .pre .1 .low) (c .before .before .before .before .before .before .before .before .before .before .before .before .pre .1 .short), subst Small (sym (c .before .before .decoded .ensures)) (c .before .before .before .before .before .before .before .before .before .loop .inv .cells-ready .small (c .before .before .before .before .before .k2 .given .0 .0)))
 
 add-at-4 : (t : ℕ) → lts.Need-add-at-4 (claims t) (at t) measure.Post Inv-loop μ-loop
 add-at-4 t c =
@@ -209,14 +212,22 @@ loop-again-4 : (t : ℕ) → lts.Need-loop-again-4 (claims t) (at t) measure.Pos
 loop-again-4 t c =
     call-step _ _ _ _ _ _ _ (c .before .before .before .before .before .before .before .before .before .before .loop .inv) (c .before .before .before .before .before .before .before .before .before .before .before .before .before .pre .1 .low) _ _ _ (c .before .before .before .before .before .before .before .before .before .loop-test .taken) ((subst (IsPart _ _) (c .before .before .before .before .before .before .k2 .given .1) (c .before .before .before .before .before .before .before .before .part-at .ensures)) .0) (c .before .before .before .decoded .ensures) (omega (arith, c .before .if2 .left)) (c .with-call .ensures)
 
+settled-requires : (t : ℕ) → lts.Need-settled-requires (claims t) (at t) measure.Post Inv-loop μ-loop
+settled-requires t c κs =
+    running _ _ _ _ _ _ _ (c .before .before .before .before .loop .inv) (c .before .before .before .before .before .before .before .pre .1 .low) (c .before .before .before .before .before .before .before .pre .1 .short)
+
 returns-5 : (t : ℕ) → lts.Need-returns-5 (claims t) (at t) measure.Post Inv-loop μ-loop
 returns-5 t c =
-    let closing = subst (IsPart _ _) (c .enum-told4 .given .1) (c .before .before .part-at .ensures) in
-    close-end _ _ _ _ _ _ _ (c .before .before .before .before .loop .inv) (c .before .before .before .before .before .before .before .pre .1 .low) (closing .closer) (c .before .before .before .loop-test .taken) (closing .closes)
+    let closing = subst (IsPart _ _) (c .before .enum-told4 .given .1) (c .before .before .before .part-at .ensures) in
+    close-end _ _ _ _ _ _ _ (c .before .before .before .before .before .loop .inv) (c .before .before .before .before .before .before .before .before .pre .1 .low) _ (closing .closer) (c .settled .ensures) (c .before .before .before .before .loop-test .taken) (closing .closes)
+
+settled-requires-2 : (t : ℕ) → lts.Need-settled-requires-2 (claims t) (at t) measure.Post Inv-loop μ-loop
+settled-requires-2 t c κs =
+    running _ _ _ _ _ _ _ (c .before .loop .inv) (c .before .before .before .before .pre .1 .low) (c .before .before .before .before .pre .1 .short)
 
 returns-6 : (t : ℕ) → lts.Need-returns-6 (claims t) (at t) measure.Post Inv-loop μ-loop
 returns-6 t c =
-    stop-end _ _ _ _ _ _ _ (c .before .loop .inv) (c .before .before .before .before .pre .1 .low) (omega (arith, c .loop-test .left)) (c .before .before .before .before .pre .1 .inside)
+    stop-end _ _ _ _ _ _ _ (c .before .before .loop .inv) (c .before .before .before .before .before .pre .1 .low) _ (c .settled2 .ensures) (omega (arith, c .before .loop-test .left)) (c .before .before .before .before .before .pre .1 .inside)
 
 pub +measure-spec : {M : Type 1} → statement M
 +measure-spec =
@@ -270,5 +281,7 @@ pub +measure-spec : {M : Type 1} → statement M
     (loop-less-4 t)
     (loop-again-4 t)
     (λ c. search needs)
+    (settled-requires t)
     (returns-5 t)
+    (settled-requires-2 t)
     (returns-6 t)
