@@ -1,23 +1,19 @@
 -- docs/INTERFACE.md, 'The header's fields' and 'The voices of a MUS file': what stands in a list after a call.
--- front           numbers in the first cells of a list, as many as fit; 'Cells that a call does not fill keep what they held'
--- cellsAfter      the cells after a call, by its outcome: 'A refusal leaves every list as it was'
+-- cellsAfter      the cells after a call, by its outcome: 'Cells that a call does not fill keep what they held', 'A refusal leaves every list as it was'
 -- kindNumber, flagNumber   '0 for PSID, 1 for RSID'; a flag bit
 -- headerNumbers   the header's fields in their order
 -- voiceNumbers, songNumbers   'for voice 1, then 2, then 3, the file offset of its first pair, its stored pairs, its events and its pairs walked'
-use Prim.Native.Nat.{ℕ, _/_, min}
+use Prim.Native.Nat.{ℕ, _/_}
 use mathlib.Core.Bool.{Bool, true, false}
 use mathlib.Core.List.{List, [], _∷_, _++_}
-use lib.ListN.{length, take, drop}
 use Rattle.refusals.specs.Numbers.{Outcome}
 use Rattle.refusals.specs.Numbers.Outcome.{accepted, refused}
+use Rattle.fields.specs.Parts.{front}
 use Rattle.sid.specs.declared.Kind.{Kind}
 use Rattle.sid.specs.declared.Kind.the-variants.{Psid, Rsid}
 use Rattle.sid.specs.declared.Header.{Header}
 use Rattle.mus.specs.declared.Voice.{Voice}
 use Rattle.mus.specs.declared.Song.{Song}
-
-abbrev pub front : List ℕ → List ℕ → List ℕ
-front numbers cells = take (min (length numbers) (length cells)) numbers ++ drop (min (length numbers) (length cells)) cells
 
 abbrev pub cellsAfter : {A : Type 0} → (A → List ℕ) → Outcome A → List ℕ → List ℕ
 cellsAfter numbers (accepted a) cells = front (numbers a) cells

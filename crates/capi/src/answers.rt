@@ -1,7 +1,7 @@
 // What the calls answer, as one number, and what they put into a list.
 ghost use mathlib.Core.Path.{_≡_};
 ghost use Prim.Native.Nat.{_+_, _*_, _<_};
-ghost use Rattle.capi.specs.Lists.{front};
+ghost use Rattle.fields.specs.Parts.{front};
 use refusals::Refusal;
 
 // internal: a refusal's number above its place.

@@ -1,6 +1,5 @@
 -- A number that no entry of a table has is answered 43.
--- Misses   each entry has another number, as the last arm of a match on a number knows it
--- missed   such a number is not found
+-- missed   a number that no entry has is not found
 -- no-tie, tie-at   the digit of a tie: 0 or 1
 use Prim.Native.Nat.{ℕ, _<_, _≤_}
 use mathlib.Core.Path.{_≡_, refl}
@@ -10,21 +9,14 @@ use native.Mathlib.Decide.{ℕ-discrete}
 use lib.Dec.{eqb}
 use borrow.Author.Tests.{ne-eqb}
 use Rattle.refusals.specs.Numbers.Outcome.{accepted}
+use Rattle.refusals.specs.LastArm.{Others, known}
 use Rattle.codes.specs.Tables.{Entry, none, lookup, ties}
 
-abbrev pub Misses : {A : Type 0} → Type 0 → List (Entry A) → ℕ → Type 0
-Misses T [] k = T
-Misses T (e ∷ es) k = Misses (T × (k ≡ e .digits → ⊥)) es k
-
-known : {A : Type 0} (T : Type 0) (es : List (Entry A)) (k : ℕ) → Misses T es k → T
-known T [] k m = m
-known T (e ∷ es) k m = known (T × (k ≡ e .digits → ⊥)) es k m .0
-
-pub missed : {A : Type 0} (T : Type 0) (es : List (Entry A)) (k : ℕ) → Misses T es k → lookup es k ≡ none
+pub missed : {A : Type 0} (T : Type 0) (es : List (Entry A)) (k : ℕ) → Others (λ (e : Entry A). e .digits) T es k → lookup es k ≡ none
 missed T [] k m = refl
-missed T (e ∷ es) k m =
+missed {A} T (e ∷ es) k m =
     let next = T × (k ≡ e .digits → ⊥) in
-    rw (ne-eqb k (e .digits) (known next es k m .1)) (missed next es k m)
+    rw (ne-eqb k (e .digits) (known (λ (x : Entry A). x .digits) next es k m .1)) (missed next es k m)
 
 pub no-tie : (t : ℕ) → 1 < t → lookup ties t ≡ none
 no-tie t h = rw (ne-eqb t 0 (λ e. omega arith), ne-eqb t 1 (λ e. omega arith))

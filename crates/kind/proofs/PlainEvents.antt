@@ -1,5 +1,5 @@
 -- What is plain is an event.
--- Others, not-among   a number that is none of some, as the last arm of a match knows it
+-- not-among           a number that is none of some, as the last arm of a match knows it
 -- plain-event         so for every two bytes
 use Prim.Native.Nat.{ℕ, _%_, _<_}
 use mathlib.Core.Path.{_≡_, refl, sym, _∙_}
@@ -7,6 +7,7 @@ use mathlib.Core.Bool.{Bool, true, false, not, _&&_, _||_}
 use mathlib.Core.List.{List, [], _∷_}
 use lib.Dec.{eqb, ltb}
 use borrow.Author.Tests.{eqb-true, ne-eqb, ltb-true, not-true}
+use Rattle.refusals.specs.LastArm.{Others, known}
 use Rattle.refusals.specs.Tests.{pick}
 use Rattle.refusals.specs.Laws.{both}
 use Rattle.meaning.specs.Every.{every-at, implied}
@@ -20,17 +21,9 @@ use Rattle.kind.specs.Laws.{sameKind, same-kind}
 use Rattle.kind.specs.Plain.{among, plainSecond, apart, plainFirst, isPlain}
 use Rattle.kind.proofs.Rows.{second-as, por-event, rest-event}
 
-abbrev pub Others : Type 0 → List ℕ → ℕ → Type 0
-Others T [] k = T
-Others T (x ∷ xs) k = Others (T × (k ≡ x → ⊥)) xs k
-
-known : (T : Type 0) (xs : List ℕ) (k : ℕ) → Others T xs k → T
-known T [] k o = o
-known T (x ∷ xs) k o = known (T × (k ≡ x → ⊥)) xs k o .0
-
-pub not-among : (T : Type 0) (xs : List ℕ) (k : ℕ) → Others T xs k → among xs k ≡ false
+pub not-among : (T : Type 0) (xs : List ℕ) (k : ℕ) → Others (λ x. x) T xs k → among xs k ≡ false
 not-among T [] k o = refl
-not-among T (x ∷ xs) k o = rw (ne-eqb k x (known (T × (k ≡ x → ⊥)) xs k o .1)) (not-among (T × (k ≡ x → ⊥)) xs k o)
+not-among T (x ∷ xs) k o = rw (ne-eqb k x (known (λ y. y) (T × (k ≡ x → ⊥)) xs k o .1)) (not-among (T × (k ≡ x → ⊥)) xs k o)
 
 second-event : (b : ℕ) → b < 256 → plainSecond (b % 16) ≡ true → kindOf (secondOutcome b) ≡ Event
 second-event b h e =

@@ -2,6 +2,7 @@
 // line a call. tools/listvectors makes the files and says what each call must give.
 ghost use Prim.Native.Nat.{_≤_};
 use events::Listed;
+use files::Loaded;
 use libc::STDOUT_FILENO;
 use refusals::Refusal;
 use std::num::wrapping_add_u32;
@@ -158,15 +159,14 @@ fn report_row(i: usize) {
     let mut name = [0u8; 64];
     let mut file = [0u8; 66000];
     let n = os::arg(i, &mut name);
-    let fd = os::open_read(&name[..n]);
-    if fd < 0 {
-        os::fail(&name[..n]);
-        return;
+    match files::read_file(&name[..n], &mut file) {
+        Loaded::Bytes(len) => {
+            write(&name[..n]);
+            report(fields::part(&file, 0, len), call_after(i));
+        }
+        Loaded::NotOpened(_) => os::fail(&name[..n]),
+        Loaded::NotRead(_) => os::fail(&name[..n]),
     }
-    let len = io::read_full(fd, &mut file);
-    libc::close(fd);
-    write(&name[..n]);
-    report(&file[..len], call_after(i));
 }
 
 fn main() {

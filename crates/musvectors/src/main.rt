@@ -1,6 +1,7 @@
 // Runs the hand-made files of data/ through accept and text_line, and shows every answer, a line a file. tools/musvectors makes
 // the files and says what each must give.
 use container::Span;
+use files::Loaded;
 use libc::STDOUT_FILENO;
 use mus::Reading;
 use mus::Song;
@@ -91,14 +92,11 @@ fn report_argument(i: usize) {
     let mut name = [0u8; 64];
     let mut file = [0u8; 66000];
     let n = os::arg(i, &mut name);
-    let fd = os::open_read(&name[..n]);
-    if fd < 0 {
-        os::fail(&name[..n]);
-        return;
+    match files::read_file(&name[..n], &mut file) {
+        Loaded::Bytes(len) => report(&name[..n], fields::part(&file, 0, len)),
+        Loaded::NotOpened(_) => os::fail(&name[..n]),
+        Loaded::NotRead(_) => os::fail(&name[..n]),
     }
-    let len = io::read_full(fd, &mut file);
-    libc::close(fd);
-    report(&name[..n], &file[..len]);
 }
 
 fn main() {

@@ -1,5 +1,6 @@
 // Runs the hand-made files of data/ through read, load and speed_of_song, and shows every answer. tools/sidvectors makes the
 // files and says what each must give.
+use files::Loaded;
 use libc::STDOUT_FILENO;
 use refusals::Refusal;
 use sid::Header;
@@ -241,14 +242,11 @@ fn report_argument(i: usize) {
     let mut name = [0u8; 64];
     let mut file = [0u8; 66000];
     let n = os::arg(i, &mut name);
-    let fd = os::open_read(&name[..n]);
-    if fd < 0 {
-        os::fail(&name[..n]);
-        return;
+    match files::read_file(&name[..n], &mut file) {
+        Loaded::Bytes(len) => report(&name[..n], fields::part(&file, 0, len), i <= 2),
+        Loaded::NotOpened(_) => os::fail(&name[..n]),
+        Loaded::NotRead(_) => os::fail(&name[..n]),
     }
-    let len = io::read_full(fd, &mut file);
-    libc::close(fd);
-    report(&name[..n], &file[..len], i <= 2);
 }
 
 fn main() {

@@ -8,7 +8,8 @@ use Rattle.refusals.specs.Numbers.{Outcome}
 use Rattle.mus.specs.declared.Song.{Song}
 use Rattle.mus.specs.Song.{told}
 use Rattle.capi.specs.Answers.{packed}
-use Rattle.capi.specs.Lists.{front, cellsAfter, songNumbers}
+use Rattle.fields.specs.Parts.{front}
+use Rattle.capi.specs.Lists.{cellsAfter, songNumbers}
 use Rattle.capi.proofs.Places.{Low, low-fits, mus-low}
 use Rattle.capi.proofs.Accepted.{narrow-song}
 use Rattle.capi.proofs.tt_mus_accept.Statement.{statement}

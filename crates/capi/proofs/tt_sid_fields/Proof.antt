@@ -8,7 +8,8 @@ use Rattle.refusals.specs.Numbers.{Outcome}
 use Rattle.sid.specs.declared.Header.{Header}
 use Rattle.sid.specs.Answers.{told}
 use Rattle.capi.specs.Answers.{packed}
-use Rattle.capi.specs.Lists.{front, cellsAfter, headerNumbers}
+use Rattle.fields.specs.Parts.{front}
+use Rattle.capi.specs.Lists.{cellsAfter, headerNumbers}
 use Rattle.capi.proofs.Places.{Low, low-fits, sid-low}
 use Rattle.capi.proofs.Accepted.{narrow-header}
 use Rattle.capi.proofs.tt_sid_fields.Statement.{statement}

@@ -1,0 +1,50 @@
+-- docs/DECISIONS.md, 'What kind a file is': told from the file's bytes alone.
+-- Judgement   what a file is and comes to: accepted with what it says of itself, or refused with a number and a place
+-- told        what an answer says
+-- asTune      a file that begins with PSID or RSID: what document 01, 'PSID and RSID', answers
+-- asSong      any other file: a song where 21 to 24 do not apply to it as a MUS song, and else neither
+-- judged      a file
+use Prim.Native.Nat.{ℕ}
+use mathlib.Core.List.{List}
+use lib.Dec.{eqb, leb}
+use Rattle.refusals.specs.Numbers.{Outcome, numberOf}
+use Rattle.refusals.specs.Numbers.Outcome.{accepted, refused}
+use Rattle.refusals.specs.Numbers.Reason.{voicesPastFile}
+use Rattle.refusals.specs.Tests.{pick}
+use Rattle.fields.specs.Numbers.{be32}
+use Rattle.sidheader.specs.Fields.{psid, rsid}
+use Rattle.sid.specs.declared.Kind.{Kind}
+use Rattle.sid.specs.declared.Kind.the-variants.{Psid, Rsid}
+use Rattle.sid.specs.declared.Header.{Header}
+use Rattle.sid.specs.Answers.{sidOutcome}
+use Rattle.mus.specs.declared.Song.{Song}
+use Rattle.mus.specs.Song.{musOutcome}
+use Rattle.card.specs.declared.Judged.{Judged}
+use Rattle.card.specs.declared.Judged.the-variants as answer
+
+pub data Judgement : Type 0 where
+  tune : Header → Judgement
+  refusedTune : Kind → ℕ → ℕ → Judgement
+  song : Song → Judgement
+  refusedSong : ℕ → ℕ → Judgement
+  neither : ℕ → ℕ → Judgement
+
+abbrev pub told : Judged → Judgement
+told (answer.Tune h) = tune h
+told (answer.RefusedTune k x) = refusedTune k (x .number) (x .place)
+told (answer.Song s) = song s
+told (answer.RefusedSong x) = refusedSong (x .number) (x .place)
+told (answer.Neither x) = neither (x .number) (x .place)
+
+abbrev pub asTune : Kind → Outcome Header → Judgement
+asTune kind (accepted h) = tune h
+asTune kind (refused number place) = refusedTune kind number place
+
+abbrev pub asSong : Outcome Song → Judgement
+asSong (accepted s) = song s
+asSong (refused number place) = pick (leb number (numberOf voicesPastFile)) (neither number place) (refusedSong number place)
+
+abbrev pub judged : List ℕ → Judgement
+judged f =
+    pick (eqb (be32 f 0) psid) (asTune Psid (sidOutcome f))
+    (pick (eqb (be32 f 0) rsid) (asTune Rsid (sidOutcome f)) (asSong (musOutcome f)))

@@ -1,0 +1,72 @@
+-- Every file that a reader accepts is judged so: no tune and no song is lost by the way its kind is told.
+-- tune-judged   a file that is accepted as PSID or RSID
+-- song-judged   a file that is accepted as MUS: begun with PSID or RSID, the length of its first voice would be odd (23)
+use Prim.Native.Nat.{ℕ, _+_, _*_, _<_, _%_}
+use mathlib.Core.Path.{_≡_, refl, sym, subst}
+use mathlib.Core.Bool.{Bool, true, false, not, _&&_, false≢true}
+use mathlib.Core.List.{List}
+use native.Mathlib.Omega.{arith}
+use lib.Dec.{eqb, lit<}
+use lib.ListN.{getD}
+use borrow.Author.Tests.{eqb-true, eqb-false, ne-eqb}
+use Rattle.refusals.specs.Numbers.Outcome.{accepted}
+use Rattle.refusals.specs.Laws.{neither}
+use Rattle.refusals.specs.Tests.{pick}
+use Rattle.fields.specs.Numbers.{be16, be32, le16}
+use Rattle.sidheader.specs.Fields.{psid, rsid, fieldsOf}
+use Rattle.sidrefusals.specs.PayloadTests.{sidTests}
+use Rattle.sid.specs.declared.Header.{Header}
+use Rattle.sid.specs.declared.Kind.the-variants.{Psid, Rsid}
+use Rattle.sid.specs.Answers.{sidOutcome}
+use Rattle.sid.specs.Laws.{accepted-none}
+use Rattle.container.specs.Head.{headOf, badLength}
+use Rattle.container.specs.Layout.{containerTests}
+use Rattle.mus.specs.declared.Song.{Song}
+use Rattle.mus.specs.Song.{musOutcome}
+use Rattle.mus.specs.Laws.{accepted-clear}
+use Rattle.card.specs.Judging as judging
+use Rattle.card.specs.Judging.{asTune, asSong, judged}
+
+pub tune-judged : (f : List ℕ) (h : Header) → sidOutcome f ≡ accepted h → judged f ≡ judging.Judgement.tune h
+unfolding sidTests fieldsOf
+tune-judged f h e = rw e (go (eqb (be32 f 0) psid) (eqb (be32 f 0) rsid) (accepted-none f h e .1 .0))
+  where
+    go : (p r : Bool) → not p && not r ≡ false → pick p (asTune Psid (accepted h)) (pick r (asTune Rsid (accepted h)) (asSong (musOutcome f))) ≡ judging.Judgement.tune h
+    go true r q = refl
+    go false true q = refl
+    go false false q = absurd (false≢true (sym q))
+
+-- the low half of a number of 32 bits
+low-half : (a b c d : ℕ) → b < 65536 → d < 65536 → a * 65536 + b ≡ c * 65536 + d → b ≡ d
+low-half a b c d h g e = omega arith
+
+module _ (f : List ℕ) (s : Song) (e : musOutcome f ≡ accepted s) (low : getD f 2 0 < 256) (high : getD f 3 0 < 256) where
+  -- the first voice has an even number of bytes
+  even : le16 f 2 % 2 ≡ 0
+  unfolding containerTests headOf
+  even =
+      let none = accepted-clear f s e .0 .container .1 .1 .0 in
+      let len = neither (badLength (le16 f 2)) (badLength (le16 f 4)) (neither _ (badLength (le16 f 6)) none .0) .0 in
+      let odd = eqb-false (le16 f 2 % 2) 1 (neither (eqb (le16 f 2) 0) (eqb (le16 f 2 % 2) 1) len .1) in
+      omega arith
+
+  -- the bytes 2 and 3 are not the letters I and D: the length would be odd
+  no-letters : getD f 2 0 * 256 + getD f 3 0 ≡ 0x4944 → ⊥
+  unfolding le16
+  no-letters q =
+      let i : getD f 2 0 ≡ 0x49 = omega (arith, q, low, high) in
+      let d : getD f 3 0 ≡ 0x44 = omega (arith, q, i) in
+      let length : getD f 2 0 + getD f 3 0 * 256 ≡ 0x4449 = omega (arith, i, d) in
+      let odd : _≡_ {A = ℕ} 1 0 = subst (λ (n : ℕ). n % 2 ≡ 0) length even in
+      omega (arith, odd)
+
+  no-psid : be32 f 0 ≡ psid → ⊥
+  unfolding be32 be16
+  no-psid q = no-letters (low-half (getD f 0 0 * 256 + getD f 1 0) (getD f 2 0 * 256 + getD f 3 0) 0x5053 0x4944 (omega (arith, low, high)) (lit< tt) q)
+
+  no-rsid : be32 f 0 ≡ rsid → ⊥
+  unfolding be32 be16
+  no-rsid q = no-letters (low-half (getD f 0 0 * 256 + getD f 1 0) (getD f 2 0 * 256 + getD f 3 0) 0x5253 0x4944 (omega (arith, low, high)) (lit< tt) q)
+
+  pub song-judged : judged f ≡ judging.Judgement.song s
+  song-judged = rw (ne-eqb (be32 f 0) psid no-psid, ne-eqb (be32 f 0) rsid no-rsid, e)

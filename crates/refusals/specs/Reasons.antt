@@ -1,0 +1,101 @@
+-- Document 01, 'What comes back': the reason behind each number, in words for a person.
+-- phraseOf    a phrase for each line of the table
+-- tuneReasons, songReasons, callReasons   the table's lines: PSID and RSID, MUS, and what a caller hands in
+-- byteText    a text as bytes
+-- found, phraseAt   the phrase of a number; nothing where the table has no such number
+use Prim.Native.Nat.{ℕ}
+use Prim.Native.String.{String}
+use Prim.Native.String as string
+use Prim.Native.Char.{code}
+use mathlib.Core.List.{List, [], _∷_}
+use lib.Dec.{eqb, leb}
+use Rattle.refusals.specs.Numbers.{Reason, numberOf}
+use Rattle.refusals.specs.Numbers.Reason.{tooShort, magic, version, dataOffset, rsidReserved, songs, reservedBits, musPayload, noPayload, pastMemory, rsidLoad, rsidInit, freePages, musShort, musPastMemory, voiceLength, voicesPastFile, textLines, bytesAfterText, unassignedPair, valueRange, hltMisplaced, structure, hedZero, tooDeep, tooLong, memorySize, voiceNumber, listLengths, noPair, noSuchSong}
+use Rattle.refusals.specs.Tests.{pick}
+
+abbrev pub phraseOf : Reason → String
+phraseOf tooShort = "too short for a PSID or RSID header"
+phraseOf magic = "it begins neither with PSID nor with RSID"
+phraseOf version = "its version is not one that we read (PSID 1 and 2, RSID 2)"
+phraseOf dataOffset = "its data offset is not that of its version"
+phraseOf rsidReserved = "an RSID whose load, play or speed field is not 0"
+phraseOf songs = "no song, more than 256 songs, or a start song past the last"
+phraseOf reservedBits = "reserved flag bits or the reserved word are set"
+phraseOf musPayload = "it is marked as a MUS song that needs a player: use the MUS file itself"
+phraseOf noPayload = "there is no byte to load behind the header"
+phraseOf pastMemory = "the payload runs past the end of memory, $FFFF"
+phraseOf rsidLoad = "an RSID that loads below $07E8"
+phraseOf rsidInit = "an RSID whose init address is not allowed"
+phraseOf freePages = "the free pages that it states cannot be free"
+phraseOf musShort = "under 8 bytes, too short for a MUS song"
+phraseOf musPastMemory = "too long for a MUS song: it runs past the end of memory, $FFFF"
+phraseOf voiceLength = "a voice's length is 0 or odd"
+phraseOf voicesPastFile = "the voices run past the end of the file: is it cut off?"
+phraseOf textLines = "its text is not five lines of at most 32 letters and an end mark"
+phraseOf bytesAfterText = "bytes follow the end of the text"
+phraseOf unassignedPair = "no command has these two bytes"
+phraseOf valueRange = "a command's value is out of its range"
+phraseOf hltMisplaced = "HLT must be the last pair of a voice and stand nowhere else"
+phraseOf structure = "repeats (HED, TAL) or phrases (DEF, END, CAL) do not fit together"
+phraseOf hedZero = "a repeat of 0 passes (HED 0)"
+phraseOf tooDeep = "repeats and calls are nested more than 16 deep"
+phraseOf tooLong = "the voice is too long when played: over 1,048,576 pairs"
+phraseOf memorySize = "the memory to load into has not 65,536 bytes"
+phraseOf voiceNumber = "the voice is not 1, 2 or 3"
+phraseOf listLengths = "the two lists have unequal lengths"
+phraseOf noPair = "no pair of bytes has this meaning"
+phraseOf noSuchSong = "the file has no song of this number"
+
+abbrev pub tuneReasons : List Reason
+tuneReasons =
+    tooShort
+    ∷ magic
+    ∷ version
+    ∷ dataOffset
+    ∷ rsidReserved
+    ∷ songs
+    ∷ reservedBits
+    ∷ musPayload
+    ∷ noPayload
+    ∷ pastMemory
+    ∷ rsidLoad
+    ∷ rsidInit
+    ∷ freePages
+    ∷ []
+
+abbrev pub songReasons : List Reason
+songReasons =
+    musShort
+    ∷ musPastMemory
+    ∷ voiceLength
+    ∷ voicesPastFile
+    ∷ textLines
+    ∷ bytesAfterText
+    ∷ unassignedPair
+    ∷ valueRange
+    ∷ hltMisplaced
+    ∷ structure
+    ∷ hedZero
+    ∷ tooDeep
+    ∷ tooLong
+    ∷ []
+
+abbrev pub callReasons : List Reason
+callReasons =
+    memorySize
+    ∷ voiceNumber
+    ∷ listLengths
+    ∷ noPair
+    ∷ noSuchSong
+    ∷ []
+
+abbrev pub byteText : String → List ℕ
+byteText string.[] = []
+byteText (string._∷_ c s) = code c ∷ byteText s
+
+abbrev pub found : List Reason → ℕ → List ℕ
+found [] n = []
+found (r ∷ rs) n = pick (eqb n (numberOf r)) (byteText (phraseOf r)) (found rs n)
+
+abbrev pub phraseAt : ℕ → List ℕ
+phraseAt n = pick (leb n (numberOf freePages)) (found tuneReasons n) (pick (leb n (numberOf tooLong)) (found songReasons n) (found callReasons n))
