@@ -69,11 +69,16 @@ fn reason(number: u32) {
     write(fields::part(&words, 0, n));
 }
 
-// A refusal's number, place and reason.
-pub fn refusal(x: Refusal) {
+// A refusal's number and place.
+fn placed(x: Refusal) {
     number(x.number as usize);
     write(b" at place ");
     number(x.place);
+}
+
+// A refusal's number, place and reason.
+pub fn refusal(x: Refusal) {
+    placed(x);
     write(b": ");
     reason(x.number);
 }
@@ -84,9 +89,7 @@ pub fn refusal_in_song(file: &[u8], x: Refusal) {
         refusal(x);
         return;
     }
-    number(x.number as usize);
-    write(b" at place ");
-    number(x.place);
+    placed(x);
     write(b" (");
     hex_byte(fields::byte_at(file, x.place));
     write(b" ");

@@ -21,7 +21,7 @@ enum Checked {
 // Longer than any path that can be opened.
 const NAME: usize = 8192;
 
-// Longer than any accepted file, so that what is cut off changes no answer: the law `cut-off` of crates/sid/proofs/CutOff.antt, and 22.
+// Longer than any accepted file, so that what is cut off changes no answer: the law `judged-cut` of crates/card/proofs/CutOff.antt.
 const FILE: usize = 66000;
 
 fn accept_tune(file: &[u8], h: Header) -> Checked {
