@@ -59,7 +59,7 @@ fn song_reason(number: u32, out: &mut [u8]) -> usize
     match number {
         crate::MUS_SHORT => put(b"under 8 bytes, too short for a MUS song", out),
         crate::MUS_PAST_MEMORY => put(
-            b"too long for a MUS song: it runs past the end of memory, $FFFF",
+            b"too long for a MUS song: over 65,536 bytes, or past the end of memory, $FFFF",
             out,
         ),
         crate::VOICE_LENGTH => put(b"a voice's length is 0 or odd", out),
