@@ -29,16 +29,10 @@ pub fn write_hex(byte: u8) {
     write(&text);
 }
 
-// A word of a list by its number, from 0 on, and the space that stands behind each. Every list has the word that is asked for; the
-// tests are there for the part of the slice.
+// A word of a list by its number, from 0 on, and a space.
 pub fn write_word(words: &[u8], number: u8) {
-    let from = fields::start_of(words, b' ', number as u16);
-    let to = fields::start_of(words, b' ', number as u16 + 1);
-    if from < to {
-        if to <= words.len() {
-            write(&words[from..to]);
-        }
-    }
+    write(fields::entry_at(words, b' ', number as usize));
+    write(b" ");
 }
 
 // Of a refusal whose place is 0, the word and the number.

@@ -45,7 +45,7 @@ offset-low x r v4 o4 = go (eqb (x .version) 1) (eqb (x .version) 2) (eqb (x .off
 
 text-narrow : (f : List ℕ) (at : ℕ) → at ≤ 65538 → NarrowSpan (spanAt f at)
 text-narrow f at h =
-    record { from = h; len = omega (arith, length-before (take 31 (drop at f)), length-take 31 (drop at f)) }
+    record { from = h; len = omega (arith, length-before 0 (take 31 (drop at f)), length-take 31 (drop at f)) }
 
 pub narrow-header : (f : List ℕ) (h : Header) → sidOutcome f ≡ accepted h → Narrow h
 unfolding sidTests headerOf payloadOf

@@ -2,7 +2,7 @@
 -- Told            the value is below 2^32; of a refusal the number is above 0 and the place below 2^32
 -- value-apart, refusal-apart   so the two halves of an answer are 0 and the value, or the number and the place
 -- read-told, fields-told, load-told, speed-told, accept-told, list-told, pair-read-told, pair-write-told   so for each call
-use Prim.Native.Nat.{ℕ, _+_, _*_, _-_, _/_, _%_, _≤_, _<_, min}
+use Prim.Native.Nat.{ℕ, _-_, _/_, _%_, _<_}
 use mathlib.Core.Path.{_≡_, refl, sym, _∙_, ap}
 use mathlib.Core.Bool.{_||_}
 use mathlib.Core.List.{List, [], _∷_}
@@ -31,11 +31,10 @@ use Rattle.codelaws.specs.Statements.{PairRefused, WithoutPair}
 use Rattle.codelaws.proofs.Refused.{pair-refused}
 use Rattle.codelaws.proofs.Laws.{read-coded, undecoded}
 use Rattle.bodies.specs.Voice.{pairs}
-use Rattle.bodies.specs.Playing.{played, eventsOf, walkedOf}
+use Rattle.bodies.specs.Playing.{eventsOf, walkedOf}
 use Rattle.bodies.proofs.Related.{events-walked}
-use Rattle.mus.specs.declared.Song.{Song}
 use Rattle.mus.specs.Song.{musOutcome}
-use Rattle.events.specs.Listing.{voiceOf, bytesOf, playedIn, countOf, Listing, windowIn, listing}
+use Rattle.events.specs.Listing.{voiceOf, bytesOf, playedIn, countOf, Listing, listing}
 use Rattle.events.specs.Laws.{accepted-window}
 use Rattle.events.proofs.Voices.{in-song}
 use Rattle.capi.specs.Answers.{packed, noValue, bytesNumber, written}

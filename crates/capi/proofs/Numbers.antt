@@ -12,8 +12,7 @@ use Rattle.refusals.specs.Numbers.{Reason, numberOf, tooShort, magic, version, 
 use Rattle.refusals.specs.declared.Verdict.{Verdict}
 use Rattle.refusals.specs.declared.Verdict.the-variants.{Passed, Failed}
 use Rattle.refusals.specs.Tests.{Test, pick, firstOf}
-use Rattle.structure.specs.declared.Finding.{Finding}
-use Rattle.structure.specs.declared.Finding.the-variants.{Clear, At}
+use Rattle.structure.specs.declared.Finding.the-variants.{At}
 use Rattle.structure.specs.Findings.{foundAt, firstAt}
 
 pub number-above : (r : Reason) → 0 < numberOf r

@@ -5,7 +5,7 @@
 -- voiceNumbers, songNumbers   'for voice 1, then 2, then 3, the file offset of its first pair, its stored pairs, its events and its pairs walked'
 use Prim.Native.Nat.{ℕ, _/_}
 use mathlib.Core.Bool.{Bool, true, false}
-use mathlib.Core.List.{List, [], _∷_, _++_}
+use mathlib.Core.List.{List, [], _∷_}
 use Rattle.refusals.specs.Numbers.{Outcome}
 use Rattle.refusals.specs.Numbers.Outcome.{accepted, refused}
 use Rattle.fields.specs.Parts.{front}

@@ -8,7 +8,7 @@ use mathlib.Core.List.{List}
 use native.Mathlib.Omega.{arith}
 use lib.Dec.{eqb, lit<}
 use lib.ListN.{getD}
-use borrow.Author.Tests.{eqb-true, eqb-false, ne-eqb}
+use borrow.Author.Tests.{eqb-false, ne-eqb}
 use Rattle.refusals.specs.Numbers.Outcome.{accepted}
 use Rattle.refusals.specs.Laws.{neither}
 use Rattle.refusals.specs.Tests.{pick}

@@ -3,13 +3,12 @@
 -- count-coded, signed-coded, note-coded   a command without a sign, with one; a note
 -- coded                       so for every meaning that some pair has
 use Prim.Native.Nat.{ℕ, _+_, _*_, _-_, _/_, _%_, _≤_, _<_}
-use mathlib.Core.Path.{_≡_, refl, sym, _∙_, ap}
+use mathlib.Core.Path.{_≡_, refl, _∙_, ap}
 use mathlib.Core.Bool.{Bool, true, false}
 use native.Mathlib.Omega.{arith}
-use lib.Dec.{eqb, lit≤, lit<}
+use lib.Dec.{lit≤, lit<}
 use lib.IntN.{ℤ, pos, negsuc}
-use borrow.Author.Tests.{eq-eqb, ne-eqb}
-use Rattle.refusals.specs.Numbers.{Outcome}
+use borrow.Author.Tests.{ne-eqb}
 use Rattle.refusals.specs.Numbers.Outcome.{accepted}
 use Rattle.meaning.specs.declared.Duration.{Duration}
 use Rattle.meaning.specs.declared.Duration.the-variants.{Whole, Half, Quarter, Eighth, Sixteenth, ThirtySecond, SixtyFourth, UtilityDuration, UtilityVoice, AbsolutePitch}
@@ -27,7 +26,7 @@ use Rattle.meaning.specs.declared.Meaning.{Meaning}
 use Rattle.meaning.specs.declared.Meaning.the-variants as M
 use Rattle.codes.specs.Coding.{count, signed, durationDigits, shapeDigit, tieDigit, letterDigit, accidentalDigit, toneDigits, noteCode, codeOf}
 use Rattle.codes.specs.Tables.{lookup, durations, shapes, ties, letters, accidentals, above, below, plain, negative}
-use Rattle.codes.specs.Decoding.{toneAt, noteAt, commandAt, decoded}
+use Rattle.codes.specs.Decoding.{toneAt, commandAt, decoded}
 use Rattle.codelaws.specs.Statements.{Written, Coded}
 use Rattle.codelaws.proofs.Decoding.{up, down}
 use Rattle.codelaws.proofs.Sizes.{counted-small, phrase-small, destination-small, alone-small, joined-small, tempo-small, Small, byte-small, jif-small, dtn-small, tps-small, rtp-small, SmallTone, tone-small}

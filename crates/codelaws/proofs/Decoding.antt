@@ -18,9 +18,8 @@ use Rattle.refusals.specs.Numbers.Outcome.{accepted, refused}
 use Rattle.refusals.specs.Tests.{pick}
 use Rattle.meaning.specs.declared.Meaning.{Meaning}
 use Rattle.meaning.specs.declared.Meaning.the-variants as M
-use Rattle.meaning.specs.declared.Tone.{Tone}
 use Rattle.meaning.specs.declared.Tone.the-variants.{Rest, Sounds}
-use Rattle.codes.specs.Coding.{durationDigits, shapeDigit, tieDigit, letterDigit, accidentalDigit, toneDigits, noteCode, count, signed, codeOf}
+use Rattle.codes.specs.Coding.{durationDigits, shapeDigit, tieDigit, letterDigit, accidentalDigit, toneDigits, signed, codeOf}
 use Rattle.codes.specs.Tables.{none, Entry, lookup, durations, shapes, ties, letters, accidentals, switched, bumped, bare, above, below, plain, negative}
 use Rattle.codes.specs.Decoding.{after, toneAt, noteAt, commandAt, decoded}
 

@@ -1,14 +1,14 @@
 -- What is refused of two bytes is 27 or 28, at place 0.
 -- pair-refused   so for every two bytes
 use Prim.Native.Nat.{ℕ, _+_, _*_, _/_, _%_}
-use mathlib.Core.Path.{_≡_, refl}
+use mathlib.Core.Path.{refl}
 use mathlib.Core.Logic.{inl, inr}
 use mathlib.Core.Bool.{Bool, true, false, _&&_}
 use lib.Dec.{eqb, leb, ltb}
 use lib.IntN.{pos, negsuc, subℕ}
 use lib.Signed.{leZ}
 use Rattle.refusals.specs.Numbers.{Outcome}
-use Rattle.refusals.specs.Numbers.Outcome.{accepted, refused}
+use Rattle.refusals.specs.Numbers.Outcome.{accepted}
 use Rattle.refusals.specs.Tests.{pick}
 use Rattle.meaning.specs.declared.Meaning.{Meaning}
 use Rattle.meaning.specs.declared.Meaning.the-variants as M

@@ -3,16 +3,15 @@
 -- Small                the size of a value with a sign
 -- byte-small, jif-small, dtn-small, tps-small, rtp-small   values with one
 -- tone-small           a note's octave
-use Prim.Native.Nat.{ℕ, _+_, _*_, _-_, _/_, _%_, _≤_, _<_}
+use Prim.Native.Nat.{ℕ, _+_, _*_, _-_, _/_, _%_, _≤_}
 use mathlib.Core.Path.{_≡_, refl}
 use mathlib.Core.Bool.{Bool, true, false, _&&_, _||_}
 use native.Mathlib.Omega.{arith}
 use lib.Dec.{eqb, leb, ltb}
 use lib.IntN.{ℤ, pos, negsuc}
-use lib.Signed.{mag}
 use borrow.Author.Tests.{leb-true, ltb-false, eqb-true}
 use Rattle.refusals.specs.Numbers.{Outcome}
-use Rattle.refusals.specs.Numbers.Outcome.{accepted, refused}
+use Rattle.refusals.specs.Numbers.Outcome.{accepted}
 use Rattle.refusals.specs.Tests.{pick}
 use Rattle.refusals.specs.Laws.{both, neither}
 use Rattle.meaning.specs.declared.Note.{Note}

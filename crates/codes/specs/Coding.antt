@@ -8,7 +8,7 @@
 -- codeOf         a meaning's code, in source 004's order
 use Prim.Native.Nat.{ℕ, _+_, _*_}
 use mathlib.Core.Bool.{Bool, true, false}
-use lib.IntN.{ℤ, pos, negsuc}
+use lib.IntN.{ℤ}
 use Rattle.meaning.specs.declared.Duration.{Duration}
 use Rattle.meaning.specs.declared.Duration.the-variants.{Whole, Half, Quarter, Eighth, Sixteenth, ThirtySecond, SixtyFourth, UtilityDuration, UtilityVoice, AbsolutePitch}
 use Rattle.meaning.specs.declared.Shape.{Shape}

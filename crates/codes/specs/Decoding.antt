@@ -5,13 +5,8 @@
 -- commandAt     a command's number and value, in one of the tables
 -- decoded       the meaning of a number
 use Prim.Native.Nat.{ℕ, _/_, _%_}
-use mathlib.Core.Bool.{Bool}
 use mathlib.Core.List.{List}
 use lib.Dec.{eqb}
-use Rattle.meaning.specs.declared.Duration.{Duration}
-use Rattle.meaning.specs.declared.Shape.{Shape}
-use Rattle.meaning.specs.declared.Letter.{Letter}
-use Rattle.meaning.specs.declared.Accidental.{Accidental}
 use Rattle.meaning.specs.declared.Tone.{Tone}
 use Rattle.meaning.specs.declared.Tone.the-variants.{Rest, Sounds}
 use Rattle.meaning.specs.declared.Meaning.{Meaning}

@@ -1,4 +1,4 @@
--- The three ways in which a part can lie: past the end, within, and over the end. Assumes nothing.
+-- The three ways in which a part can lie: past the end, within, and over the end; and an entry of a list, cut in two steps. Assumes nothing.
 use Prim.Native.Nat.{ℕ, _+_, _-_, _≤_}
 use mathlib.Core.Path.{_≡_, sym, _∙_}
 use mathlib.Core.List.{List, []}
@@ -6,6 +6,8 @@ use native.Mathlib.Nat.{add-sub-cancel-left}
 use native.Mathlib.Omega.{arith}
 use lib.ListN.{length, take, drop, length-drop, drop-of-length-le}
 use lib.Seq.{take-all, take-nil}
+use Rattle.fields.specs.Parts.{before, startOf, entryAt}
+use Rattle.fields.specs.Laws.{take-before}
 
 module _ (s : List ℕ) (from len : ℕ) where
   pub part-past : length s ≤ from → [] ≡ take len (drop from s)
@@ -18,3 +20,9 @@ module _ (s : List ℕ) (from len : ℕ) where
   part-over h =
       take-all (length s - from) (drop from s) (simp length-drop (omega arith))
       ∙ sym (take-all len (drop from s) (simp length-drop (omega arith)))
+
+pub entry-cut : (list rest entry : List ℕ) (mark number from n : ℕ) → from ≡ startOf list mark number → rest ≡ take (length list) (drop from list) → n ≡ length (before mark rest) → entry ≡ take n (drop 0 rest) → entry ≡ entryAt list mark number
+unfolding entryAt
+entry-cut list rest entry mark number from n f r l t =
+    let whole : rest ≡ drop (startOf list mark number) list = r ∙ take-all (length list) (drop from list) (simp length-drop (omega arith)) ∙ rw f in
+    rw (t, l) (take-before mark rest ∙ rw whole)

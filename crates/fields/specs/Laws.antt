@@ -1,5 +1,5 @@
 -- Laws of parts and of memory.
--- take-before    the bytes before the first zero are the first of their list
+-- take-before    the bytes before the first mark are the first of their list
 -- length-before  they are no more
 -- length-put     memory keeps its length
 -- put-inside     a cell of the payload holds the payload's byte
@@ -12,25 +12,26 @@ use native.Mathlib.Omega.{arith}
 use lib.ListN.{length, take, drop, getD, length-append, length-take, length-drop, List·getD-append}
 use lib.Seq.{length-take-le, getD-take, getD-drop, getD-append-add}
 use lib.Dec.{eqb}
-use Rattle.fields.specs.Parts.{beforeZero, unlessZero, put}
+use Rattle.fields.specs.Parts.{before, unlessMark, put}
 
-pub take-before : (s : List ℕ) → take (length (beforeZero s)) s ≡ beforeZero s
-unfolding beforeZero
-take-before [] = refl
-take-before (b ∷ bs) = go (eqb b 0) (take-before bs)
-  where
-    go : (z : Bool) → take (length (beforeZero bs)) bs ≡ beforeZero bs → take (length (unlessZero z b (beforeZero bs))) (b ∷ bs) ≡ unlessZero z b (beforeZero bs)
-    go true e = refl
-    go false e = ap (λ (l : List ℕ). b ∷ l) e
+module _ (mark : ℕ) where
+  pub take-before : (s : List ℕ) → take (length (before mark s)) s ≡ before mark s
+  unfolding before
+  take-before [] = refl
+  take-before (b ∷ bs) = go (eqb b mark) (take-before bs)
+    where
+      go : (z : Bool) → take (length (before mark bs)) bs ≡ before mark bs → take (length (unlessMark z b (before mark bs))) (b ∷ bs) ≡ unlessMark z b (before mark bs)
+      go true e = refl
+      go false e = ap (λ (l : List ℕ). b ∷ l) e
 
-pub length-before : (s : List ℕ) → length (beforeZero s) ≤ length s
-unfolding beforeZero
-length-before [] = omega arith
-length-before (b ∷ bs) = go (eqb b 0) (length-before bs)
-  where
-    go : (z : Bool) → length (beforeZero bs) ≤ length bs → length (unlessZero z b (beforeZero bs)) ≤ length (b ∷ bs)
-    go true e = omega arith
-    go false e = omega arith
+  pub length-before : (s : List ℕ) → length (before mark s) ≤ length s
+  unfolding before
+  length-before [] = omega arith
+  length-before (b ∷ bs) = go (eqb b mark) (length-before bs)
+    where
+      go : (z : Bool) → length (before mark bs) ≤ length bs → length (unlessMark z b (before mark bs)) ≤ length (b ∷ bs)
+      go true e = omega arith
+      go false e = omega arith
 
 module _ (m : List ℕ) (a : ℕ) (p : List ℕ) (fits : a + length p ≤ length m) where
   pub length-put : length (put m a p) ≡ length m

@@ -1,3 +1,5 @@
 pub mod Numbers
 pub mod Parts
 pub mod Laws
+pub mod Truth
+pub mod Entries

@@ -4,7 +4,7 @@ ghost use mathlib.Core.Path.{_≡_};
 ghost use Prim.Native.Nat.{_+_, _≤_};
 ghost use lib.ListN.{length, getD, take, drop};
 ghost use Rattle.fields.specs.Numbers.{be16, be32, le16};
-ghost use Rattle.fields.specs.Parts.{beforeZero, startOf, put};
+ghost use Rattle.fields.specs.Parts.{before, startOf, entryAt, put};
 
 // internal: the byte at k, 0 past the end.
 pub fn byte_at(s: &[u8], k: usize) -> u8
@@ -63,13 +63,13 @@ pub fn part(s: &[u8], from: usize, len: usize) -> &[u8]
     }
 }
 
-// internal: how many bytes stand before the first zero; all of them where there is none.
-pub fn text_length(s: &[u8]) -> usize
-    ensures { λ r. ⌜ r ≡ length (beforeZero (now (s .entry))) ⌝ }
+// internal: how many bytes stand before the first mark; all of them where there is none.
+pub fn length_before(s: &[u8], mark: u8) -> usize
+    ensures { λ r. ⌜ r ≡ length (before mark (now (s .entry))) ⌝ }
 {
     let mut n = 0;
     while n < s.len() {
-        if s[n] == 0 {
+        if s[n] == mark {
             return n;
         }
         n += 1;
@@ -77,8 +77,8 @@ pub fn text_length(s: &[u8]) -> usize
     s.len()
 }
 
-// internal: where the part of a list begins that has number marks before it; the end where there are fewer.
-pub fn start_of(list: &[u8], mark: u8, number: u16) -> usize
+// Where the part of a list begins that has number marks before it; the end where there are fewer.
+fn start_of(list: &[u8], mark: u8, number: usize) -> usize
     ensures { λ r. ⌜ r ≡ startOf (now (list .entry)) mark number ⌝ }
 {
     let mut left = number;
@@ -95,6 +95,15 @@ pub fn start_of(list: &[u8], mark: u8, number: u16) -> usize
         }
     }
     list.len()
+}
+
+// internal: an entry by its number, from 0 on, of a list with a mark behind each entry; nothing past the last.
+pub fn entry_at(list: &[u8], mark: u8, number: usize) -> &[u8]
+    ensures { λ r. ⌜ now r ≡ entryAt (now (list .entry)) mark number ⌝ }
+{
+    let from = start_of(list, mark, number);
+    let rest = part(list, from, list.len());
+    part(rest, 0, length_before(rest, mark))
 }
 
 // internal: the bytes of src in the place of as many of memory's from at on. Callers see that they fit.

@@ -1,9 +1,7 @@
 -- What the reading of a file answers, for its contract. Which bytes a file has is the machine's to say; that no more are counted than the list holds is ours.
 -- Within   the bytes that were read lie in the list
-use Prim.Native.Nat.{ℕ, _≤_}
-use mathlib.Core.Path.{_≡_}
+use Prim.Native.Nat.{ℕ}
 use mathlib.Core.List.{List}
-use lib.ListN.{length, take}
 use Rattle.io.specs.Counts.{Counts}
 use Rattle.files.specs.declared.Loaded.{Loaded}
 use Rattle.files.specs.declared.Loaded.the-variants.{Bytes, NotOpened, NotRead}

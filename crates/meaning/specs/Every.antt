@@ -3,7 +3,6 @@
 -- same, same-equal    two truth values compared, and so two signed numbers (sameℤ, sameℤ-equal)
 -- true-of             a test that passes is true
 -- all-left, all-right what a test of two things shows
--- neither-left, neither-right   what it shows that neither of two holds
 -- implied             a test of a thing wherever another holds
 -- each, each-at       the same of a table: at each place and its entry
 use Prim.Native.Nat.{ℕ, zero, suc, _+_, _<_}
@@ -40,14 +39,6 @@ every-at f (suc n) t k h =
       | yes p ↦ every-at f n (all-right (f n) (every f n) t) k p
       | no q ↦ subst (λ (j : ℕ). T (f j)) (omega arith) (all-left (f n) (every f n) t)
     ]
-
-pub neither-left : (a b : Bool) → a || b ≡ false → a ≡ false
-neither-left true b e = e
-neither-left false b e = refl
-
-pub neither-right : (a b : Bool) → a || b ≡ false → b ≡ false
-neither-right true b e = absurd (let z : _≡_ {A = ℕ} 0 1 = cc in omega arith)
-neither-right false b e = e
 
 pub implied : (a b : Bool) → T (not a || b) → a ≡ true → T b
 implied true b t e = t

@@ -1,10 +1,9 @@
 -- Laws of answers and of pitches.
 -- meaning-once, bytes-once, step-once   no two answers are told alike: an equation of what is told leaves the answer no freedom
--- both-left, both-right                what both of two tests show
 -- octave-low, letter-low, raised-low   the bounds of a half-step's parts
 use Prim.Native.Nat.{ℕ, _≤_}
 use mathlib.Core.Path.{_≡_, ap}
-use mathlib.Core.Bool.{Bool, true, false, _&&_}
+use mathlib.Core.Bool.{true}
 use native.Mathlib.Omega.{arith}
 use lib.Dec.{leb, lit≤}
 use lib.IntN.{ℤ}
@@ -14,7 +13,7 @@ use Rattle.meaning.specs.declared.Letter.the-variants.{C, D, E, F, G, A,
 use Rattle.meaning.specs.declared.Accidental.{Accidental}
 use Rattle.meaning.specs.declared.Accidental.the-variants.{Flat, Natural, Sharp, DoubleSharp, DoubleFlat}
 use Rattle.meaning.specs.declared.Pitch.{Pitch}
-use Rattle.refusals.specs.Laws.{refused-once}
+use Rattle.refusals.specs.Laws.{refused-once, both-right}
 use Rattle.meaning.specs.declared.Meaning.{Meaning}
 use Rattle.meaning.specs.declared.Reading.{Reading}
 use Rattle.meaning.specs.declared.Reading.the-variants as Reading
@@ -24,14 +23,6 @@ use Rattle.meaning.specs.declared.HalfStep.{HalfStep}
 use Rattle.meaning.specs.declared.HalfStep.the-variants as HalfStep
 use Rattle.meaning.specs.Answers.{Bytes, toldMeaning, toldBytes, toldStep}
 use Rattle.meaning.specs.Pitches.{inTables, hasAccidental, letterStep, raisedBy}
-
-pub both-right : (a b : Bool) → a && b ≡ true → b ≡ true
-both-right true b e = e
-both-right false b e = absurd (let z : _≡_ {A = ℕ} 0 1 = cc in omega arith)
-
-pub both-left : (a b : Bool) → a && b ≡ true → a ≡ true
-both-left true b e = cc
-both-left false b e = e
 
 pub octave-low : (p : Pitch) → inTables p ≡ true → p .octave ≤ 7
 octave-low p e = leb-true (p .octave) 7 (both-right (hasAccidental (p .letter) (p .accidental)) (leb (p .octave) 7) e)

@@ -25,7 +25,8 @@ use Rattle.meaning.specs.declared.Note.{Note}
 use Rattle.meaning.specs.Answers.{Bytes}
 use Rattle.meaning.specs.Every.{every, every-at, all-left, all-right, implied}
 use Rattle.meaning.specs.Pitches.{hasAccidental, inTables, doubleIsSharp}
-use Rattle.meaning.specs.Laws.{both-left, octave-low}
+use Rattle.refusals.specs.Laws.{both-left}
+use Rattle.meaning.specs.Laws.{octave-low}
 use Rattle.note.specs.declared.Byte.{Byte}
 use Rattle.note.specs.declared.Byte.the-variants.{Is, None}
 use Rattle.note.specs.Reading.{noteOf, toneOf, letterOf, accidentalOf}

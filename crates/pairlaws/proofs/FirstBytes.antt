@@ -10,7 +10,7 @@ use lib.Dec.{eqb}
 use borrow.Author.Tests.{ne-eqb, not-true}
 use Rattle.refusals.specs.Numbers.Outcome.{accepted}
 use Rattle.meaning.specs.declared.Meaning.the-variants.{Pw}
-use Rattle.meaning.specs.Laws.{both-left, both-right}
+use Rattle.refusals.specs.Laws.{both-left, both-right}
 use Rattle.meaning.specs.Every.{every-at, true-of, implied}
 use Rattle.command.specs.Others.{single, found, joinedOutcome}
 use Rattle.command.proofs.Firsts.{isOneOf, singles, pulse-as, single-missed}

@@ -15,7 +15,8 @@ use Rattle.meaning.specs.declared.Meaning.{Meaning}
 use Rattle.meaning.specs.declared.Meaning.the-variants as M
 use Rattle.meaning.specs.declared.Meaning.the-variants.{Pw, Dtn}
 use Rattle.meaning.specs.Answers.{Bytes}
-use Rattle.meaning.specs.Every.{every, every-at, all-left, all-right, neither-left, neither-right}
+use Rattle.refusals.specs.Laws.{neither-left, neither-right}
+use Rattle.meaning.specs.Every.{every, every-at, all-left, all-right}
 use Rattle.note.specs.Reading.{noteOf}
 use Rattle.note.specs.Usual.{usualFirst, usualSecond}
 use Rattle.note.specs.Laws.{read-note-writes}

@@ -14,7 +14,7 @@ use Rattle.refusals.specs.Numbers.Outcome.{accepted}
 use Rattle.refusals.specs.Tests.{pick}
 use Rattle.meaning.specs.declared.Meaning.{Meaning}
 use Rattle.meaning.specs.Answers.{Bytes}
-use Rattle.meaning.specs.Laws.{both-left, both-right}
+use Rattle.refusals.specs.Laws.{both-left, both-right}
 use Rattle.meaning.specs.Every.{every, every-at, all-left, all-right}
 use Rattle.command.specs.Codes as Codes
 use Rattle.command.specs.Codes.{Command, coded}

@@ -14,7 +14,8 @@ use Rattle.meaning.specs.declared.Note.{Note}
 use Rattle.meaning.specs.declared.Meaning.{Meaning}
 use Rattle.meaning.specs.declared.Meaning.the-variants as M
 use Rattle.meaning.specs.declared.Meaning.the-variants.{Dcy, Rup, Cal, Bmp, Flt, Rng, Snc, Fx, Def, Atk, Sus, Lfo, Pv, Rdn, Wav, Fm, Rls, Res, ThreeOff, Vol, Tal, End, Hlt, Src, Dst, Pw, Tem, Utl, Pnt, Hed, Flg, Ps, Fs, Sca, Vdp, Vrt, Aut, Tps, Aux, Pvd, Pvr, Max, Utv, Fc, Rtp, Hld, Ms, Jif, Dtn, Por}
-use Rattle.meaning.specs.Every.{every-at, neither-left, neither-right}
+use Rattle.refusals.specs.Laws.{neither-left, neither-right}
+use Rattle.meaning.specs.Every.{every-at}
 use Rattle.note.specs.declared.Byte.{Byte}
 use Rattle.note.specs.declared.Byte.the-variants.{Is, None}
 use Rattle.note.specs.Reading.{noteOf}

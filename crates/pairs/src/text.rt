@@ -10,14 +10,10 @@ pub fn put(out: &mut [u8], at: usize, byte: u8) -> usize {
     }
 }
 
-// Puts what stands from a place of the text up to the next space, or to the end.
-fn put_from(out: &mut [u8], at: usize, text: &[u8], from: usize) -> usize {
+fn put_all(out: &mut [u8], at: usize, text: &[u8]) -> usize {
     let mut to = at;
-    let mut i = from;
+    let mut i = 0;
     while i < text.len() {
-        if text[i] == b' ' {
-            return to;
-        }
         to = put(out, to, text[i]);
         i += 1;
     }
@@ -27,7 +23,7 @@ fn put_from(out: &mut [u8], at: usize, text: &[u8], from: usize) -> usize {
 // A space, and a word of a list by its number, from 0 on; one space stands between two words. One literal for a list is proved sooner than one for each word.
 pub fn put_nth(out: &mut [u8], at: usize, list: &[u8], number: u8) -> usize {
     let to = put(out, at, b' ');
-    put_from(out, to, list, fields::start_of(list, b' ', number as u16))
+    put_all(out, to, fields::entry_at(list, b' ', number as usize))
 }
 
 // The number of a word in a list of two, the first for no and the second for yes.
@@ -37,7 +33,8 @@ pub fn number_of(yes: bool) -> u8 {
 
 // A space, and the word.
 pub fn put_word(out: &mut [u8], at: usize, word: &[u8]) -> usize {
-    put_nth(out, at, word, 0)
+    let to = put(out, at, b' ');
+    put_all(out, to, word)
 }
 
 fn hex_digit(n: u8) -> u8 {
@@ -51,11 +48,10 @@ pub fn put_hex(out: &mut [u8], at: usize, byte: u8) -> usize {
     put(out, to, hex_digit(byte))
 }
 
-// Digits have no space among them, so put_from puts them all.
 fn put_decimal(out: &mut [u8], at: usize, n: u32) -> usize {
     let mut digits = [0u8; 20];
     let k = io::decimal(n as u64, &mut digits);
-    put_from(out, at, &digits[..k], 0)
+    put_all(out, at, &digits[..k])
 }
 
 // A space, and the number.

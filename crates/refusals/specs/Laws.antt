@@ -7,12 +7,13 @@
 -- refused-once               a refusal is known by its number and place
 -- two-ways                   nothing is both accepted and refused
 -- guarded-passed, guarded-accepted   what comes after tests is accepted only where they pass
--- both, neither              what a test of two conditions joined shows of each
+-- both, neither, and the left and right of each   what a test of two conditions joined shows (crates/fields/specs/Truth.antt)
 use Prim.Native.Nat.{ℕ}
 use mathlib.Core.Path.{_≡_, refl}
 use native.Mathlib.Omega.{arith}
-use mathlib.Core.Bool.{Bool, true, false, _&&_, _||_}
+use mathlib.Core.Bool.{Bool, true, false}
 use mathlib.Core.List.{List, [], _∷_, _++_}
+pub use Rattle.fields.specs.Truth.{both, both-left, both-right, neither, neither-left, neither-right}
 use Rattle.refusals.specs.declared.Refusal.{Refusal}
 use Rattle.refusals.specs.declared.Verdict.{Verdict}
 use Rattle.refusals.specs.declared.Verdict.the-variants.{Passed, Failed}
@@ -88,11 +89,3 @@ refused-once x y e =
     let number : x .number ≡ y .number = cc in
     let place : x .place ≡ y .place = cc in
     λ i. record { number = number i; place = place i }
-
-pub both : (a b : Bool) → a && b ≡ true → (a ≡ true) × (b ≡ true)
-both true b e = (refl, e)
-both false b e = let z : _≡_ {A = ℕ} 0 1 = cc in absurd (omega arith)
-
-pub neither : (a b : Bool) → a || b ≡ false → (a ≡ false) × (b ≡ false)
-neither true b e = let z : _≡_ {A = ℕ} 0 1 = cc in absurd (omega arith)
-neither false b e = (refl, e)

@@ -1,6 +1,6 @@
 -- Document 01, 'What comes back': the reason behind each number, in words for a person.
 -- phraseOf    a phrase for each line of the table
--- tuneReasons, songReasons, callReasons   the table's lines: PSID and RSID, MUS, and what a caller hands in
+-- table       the table's lines
 -- byteText    a text as bytes
 -- found, phraseAt   the phrase of a number; nothing where the table has no such number
 use Prim.Native.Nat.{ℕ}
@@ -8,7 +8,7 @@ use Prim.Native.String.{String}
 use Prim.Native.String as string
 use Prim.Native.Char.{code}
 use mathlib.Core.List.{List, [], _∷_}
-use lib.Dec.{eqb, leb}
+use lib.Dec.{eqb}
 use Rattle.refusals.specs.Numbers.{Reason, numberOf}
 use Rattle.refusals.specs.Numbers.Reason.{tooShort, magic, version, dataOffset, rsidReserved, songs, reservedBits, musPayload, noPayload, pastMemory, rsidLoad, rsidInit, freePages, musShort, musPastMemory, voiceLength, voicesPastFile, textLines, bytesAfterText, unassignedPair, valueRange, hltMisplaced, structure, hedZero, tooDeep, tooLong, memorySize, voiceNumber, listLengths, noPair, noSuchSong}
 use Rattle.refusals.specs.Tests.{pick}
@@ -46,8 +46,8 @@ phraseOf listLengths = "the two lists have unequal lengths"
 phraseOf noPair = "no pair of bytes has this meaning"
 phraseOf noSuchSong = "the file has no song of this number"
 
-abbrev pub tuneReasons : List Reason
-tuneReasons =
+abbrev pub table : List Reason
+table =
     tooShort
     ∷ magic
     ∷ version
@@ -61,11 +61,7 @@ tuneReasons =
     ∷ rsidLoad
     ∷ rsidInit
     ∷ freePages
-    ∷ []
-
-abbrev pub songReasons : List Reason
-songReasons =
-    musShort
+    ∷ musShort
     ∷ musPastMemory
     ∷ voiceLength
     ∷ voicesPastFile
@@ -78,11 +74,7 @@ songReasons =
     ∷ hedZero
     ∷ tooDeep
     ∷ tooLong
-    ∷ []
-
-abbrev pub callReasons : List Reason
-callReasons =
-    memorySize
+    ∷ memorySize
     ∷ voiceNumber
     ∷ listLengths
     ∷ noPair
@@ -98,4 +90,4 @@ found [] n = []
 found (r ∷ rs) n = pick (eqb n (numberOf r)) (byteText (phraseOf r)) (found rs n)
 
 abbrev pub phraseAt : ℕ → List ℕ
-phraseAt n = pick (leb n (numberOf freePages)) (found tuneReasons n) (pick (leb n (numberOf tooLong)) (found songReasons n) (found callReasons n))
+phraseAt n = found table n

@@ -97,8 +97,8 @@ payload-whole f = go (addressed (fieldsOf f))
 pub text-part : (f : List ℕ) (at : ℕ) → partOf f (spanAt f at) ≡ textAt f at
 text-part f at =
     let text = take 31 (drop at f) in
-    let short : length (beforeZero text) ≤ 31 = omega (arith, length-before text, length-take 31 (drop at f)) in
-    sym (take-take (length (beforeZero text)) 31 (drop at f) short) ∙ take-before text
+    let short : length (beforeZero text) ≤ 31 = omega (arith, length-before 0 text, length-take 31 (drop at f)) in
+    sym (take-take (length (beforeZero text)) 31 (drop at f) short) ∙ take-before 0 text
 
 pub memory-loaded : (f m : List ℕ) (h : Header) → length m ≡ 65536 → sidOutcome f ≡ accepted h → memoryAfter f m ≡ put m (h .load) (partOf f (h .payload))
 unfolding memoryAfter loadOutcome

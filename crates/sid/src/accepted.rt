@@ -29,7 +29,7 @@ fn start_of(start: u16) -> u16
 fn text_at(file: &[u8], at: usize) -> Span
     ensures { λ r. ⌜ r ≡ spanAt (now (file .entry)) at ⌝ }
 {
-    let len = fields::text_length(fields::part(file, at, 31));
+    let len = fields::length_before(fields::part(file, at, 31), 0);
     Span { from: at, len }
 }
 

@@ -12,7 +12,8 @@ use lib.Dec.{ltb, leb, eqb}
 use borrow.Author.Tests.{ltb-true, leb-true, eqb-true, eqb-false, not-true, lt-ltb, le-leb, ne-eqb}
 use Rattle.sidheader.specs.declared.Payload.{Payload}
 use Rattle.sidrefusals.specs.Pages.{anyPage, between, touched, reservedPage}
-use Rattle.sidrefusals.proofs.Tests.{same, both, both-left, both-right}
+use Rattle.refusals.specs.Laws.{both-left, both-right}
+use Rattle.sidrefusals.proofs.Tests.{same, both}
 
 -- a page of the count from start on that passes t
 pub record Some (start count : ℕ) (t : ℕ → Bool) : Type 0 where

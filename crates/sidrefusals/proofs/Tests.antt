@@ -1,6 +1,6 @@
 -- Two tests are the same where each holds if the other does. Assumes nothing.
 -- same                    the law
--- both, -left, -right     what `&&` holds of
+-- both                    what `&&` holds of
 -- few-after, none-after   how many bytes lie past a place, without a difference
 -- no-payload              test 9 without a difference
 use Prim.Native.Nat.{ℕ, _+_, _-_, _<_}
@@ -21,15 +21,6 @@ same false false f g = refl
 
 pub both : {a b : Bool} → a ≡ true → b ≡ true → a && b ≡ true
 both p q = rw (p, q)
-
-pub both-left : (a b : Bool) → a && b ≡ true → a ≡ true
-both-left true b e = refl
-both-left false b e = e
-
-pub both-right : (a b : Bool) → a && b ≡ true → b ≡ true
-both-right true b e = e
-both-right false true e = refl
-both-right false false e = e
 
 module _ (size m : ℕ) where
   pub few-after : (n : ℕ) → 0 < n → ltb (size - m) n ≡ ltb size (m + n)

@@ -1,5 +1,4 @@
 -- `card::judge` meets its contract: the file's first four bytes decide.
-use mathlib.Core.Path.{sym, _∙_}
 use borrow.Author.Needs.{needs}
 use borrow.Author.Tests.{eq-eqb, ne-eqb}
 use Rattle.card.proofs.judge.Statement.{statement}

@@ -1,6 +1,5 @@
 -- `show` is safe and ends: it goes once through the bytes.
 use Prim.Native.Nat.{_-_}
-use native.Mathlib.Omega.{arith}
 use borrow.Author.Needs.{needs}
 use lib.ListN.{length}
 use Rattle.cardcheck.proofs.text.show.Statement.{statement}

@@ -1,7 +1,5 @@
-use mathlib.Core.Path.{ap}
 use borrow.Author.Tests.{ne-eqb}
 use borrow.Author.Needs.{needs}
-use Rattle.codes.specs.Answers.{toldLetter, toldAccidental}
 use Rattle.codes.proofs.notes.tone_at.Statement.{statement}
 use Rattle.codes.proofs.notes.tone_at.Tie as tie
 

@@ -1,5 +1,5 @@
 -- `put_number` is safe and ends: the digits stand between the place and the end, which lies at most ten behind it.
-use Prim.Native.Nat.{_≤_, _-_, _+_}
+use Prim.Native.Nat.{_≤_, _-_}
 use native.Mathlib.Omega.{arith}
 use Rattle.listing.proofs.lines.put_number.Statement.{statement}
 use Rattle.listing.proofs.lines.put_number.Tie as tie

@@ -1,21 +1,14 @@
--- `refusals::reasons::reason` meets its contract: the table's three parts by their numbers.
+-- `refusals::reasons::reason` meets its contract: the line that has so many before it is the table's phrase.
+use mathlib.Core.Path.{_∙_}
 use borrow.Author.Needs.{needs}
-use borrow.Author.Tests.{le-leb, lt-leb}
+use Rattle.refusals.proofs.Phrases.{phrases-held}
 use Rattle.refusals.proofs.reasons.reason.Statement.{statement}
 use Rattle.refusals.proofs.reasons.reason.Tie as tie
 
 returns : tie.Need-returns
-returns c = rw (le-leb _ _ (c .before .before .before .before .if1 .taken)) (c .before .before .tune-reason .ensures)
-
-returns-2 : tie.Need-returns-2
-returns-2 c =
-    rw (lt-leb _ _ (c .before .before .before .before .before .if1 .left), le-leb _ _ (c .before .before .before .before .if2 .taken)) (c .before .before .song-reason .ensures)
-
-returns-3 : tie.Need-returns-3
-returns-3 c =
-    rw (lt-leb _ _ (c .before .before .before .before .before .if1 .left), lt-leb _ _ (c .before .before .before .before .if2 .left)) (c .before .before .call-reason .ensures)
+returns c =
+    let a = c .before .before .before .before .before .before .before .before .args in
+    rw (c .before .before .before .before .entry-at .ensures ∙ phrases-held (a .number)) at (c .before .before .put .ensures)
 
 pub reason-spec : {M : Type 1} → statement M
-reason-spec =
-    tie.close
-    (tie.spec (λ c κs. search needs) (λ c κs. search needs) (λ c κs. search needs) (λ c. search needs) returns (λ c. search needs) returns-2 (λ c. search needs) returns-3)
+reason-spec = tie.close (tie.spec (λ c κs. search needs) (λ c κs. search needs) (λ c. search needs) returns)
