@@ -1,5 +1,10 @@
 -- `test_payload` meets its contract: the branch taken is at the first test that applies. Assumes nothing.
+use mathlib.Core.Path.{_≡_}
 use borrow.Author.Needs.{needs}
+use Rattle.refusals.specs.Tests.{firstOf, pick}
+use Rattle.refusals.specs.declared.Verdict.the-variants.{Passed, Failed}
+use Rattle.sidrefusals.specs.Pages.{badPages}
+use Rattle.sidrefusals.specs.PayloadTests.{payloadTests}
 use Rattle.sidrefusals.proofs.Tests.{no-payload}
 use Rattle.sidrefusals.proofs.test_payload.Statement.{statement}
 use Rattle.sidrefusals.proofs.test_payload.Tie as tie
@@ -61,33 +66,24 @@ returns-4 c =
       c .if4 .taken,
     )
 
-returns-5 : tie.Need-returns-5
-returns-5 c =
+-- what is left where the pages are looked at: the last test
+before-pages : (d : tie.After-has-bad-pages) → (let a = d .before .before .before .before .before .before .before .before .before .before .before .before .before .before .args in firstOf (payloadTests (a .x) (a .p)) ≡ pick (badPages (a .x) (a .p)) (Failed 13) Passed)
+before-pages d =
     rw (
-      no-payload (c .before .before .before .before .before .before .before .before .before .before .before .before .before .before .before .args .x),
-      c .before .before .before .before .before .if1 .left,
-      c .before .before .before .before .if2 .left,
-      c .before .before .before .if3 .left,
-      ← c .before .before .before .before .before .before .before .before .init-of .ensures,
-      ← c .before .before .before .before .before .before .before .is-barred-init .ensures,
-      c .before .before .if4 .left,
-      ← c .before .has-bad-pages .ensures,
-      c .if5 .taken,
+      no-payload (d .before .before .before .before .before .before .before .before .before .before .before .before .before .before .args .x),
+      d .before .before .before .before .if1 .left,
+      d .before .before .before .if2 .left,
+      d .before .before .if3 .left,
+      ← d .before .before .before .before .before .before .before .init-of .ensures,
+      ← d .before .before .before .before .before .before .is-barred-init .ensures,
+      d .before .if4 .left,
     )
 
+returns-5 : tie.Need-returns-5
+returns-5 c = rw (before-pages (c .before), ← c .before .has-bad-pages .ensures, c .if5 .taken)
+
 returns-6 : tie.Need-returns-6
-returns-6 c =
-    rw (
-      no-payload (c .before .before .before .before .before .before .before .before .before .before .before .before .before .before .before .args .x),
-      c .before .before .before .before .before .if1 .left,
-      c .before .before .before .before .if2 .left,
-      c .before .before .before .if3 .left,
-      ← c .before .before .before .before .before .before .before .before .init-of .ensures,
-      ← c .before .before .before .before .before .before .before .is-barred-init .ensures,
-      c .before .before .if4 .left,
-      ← c .before .has-bad-pages .ensures,
-      c .if5 .left,
-    )
+returns-6 c = rw (before-pages (c .before), ← c .before .has-bad-pages .ensures, c .if5 .left)
 
 pub test-payload-spec : {M : Type 1} → statement M
 test-payload-spec = tie.close (tie.spec cast-offset cast-load add-none add-past init-of-requires is-barred-init-requires has-bad-pages-requires returns returns-2 returns-3 returns-4 returns-5 returns-6)
