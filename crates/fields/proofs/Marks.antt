@@ -10,7 +10,7 @@ use native.Mathlib.Numerals.{add-one}
 use lib.ListN.{length, drop, getD, drop-of-length-le}
 use lib.Seq.{drop-cons}
 use borrow.Author.Tests.{eq-eqb, ne-eqb}
-use Rattle.fields.specs.Parts.{startOf}
+use Rattle.fields.specs.Entries.{startOf}
 
 abbrev pub Begins : List ℕ → ℕ → ℕ → ℕ → ℕ → Type 0
 Begins s mark number i left = startOf s mark number ≡ i + startOf (drop i s) mark left

@@ -6,7 +6,8 @@ use native.Mathlib.Nat.{add-sub-cancel-left}
 use native.Mathlib.Omega.{arith}
 use lib.ListN.{length, take, drop, length-drop, drop-of-length-le}
 use lib.Seq.{take-all, take-nil}
-use Rattle.fields.specs.Parts.{before, startOf, entryAt}
+use Rattle.fields.specs.Parts.{before}
+use Rattle.fields.specs.Entries.{startOf, entryAt}
 use Rattle.fields.specs.Laws.{take-before}
 
 module _ (s : List ℕ) (from len : ℕ) where

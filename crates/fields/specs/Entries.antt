@@ -1,17 +1,26 @@
--- A list of entries with a mark behind each, and the law of an entry by its number.
--- joined            the list
+-- Not of document 01: an entry by its number, of a list with a mark behind each, for the words of programs; and its law.
+-- startOf           where the part of a list begins that has so many marks before it
+-- entryAt           the entry
+-- joined            such a list
 -- holds, anyHolds   the mark within an entry, or within one of the entries
 -- entry-joined      entry n of the list is entry n, and nothing past the last
 use Prim.Native.Nat.{ℕ, zero, suc, _+_, _-_}
 use mathlib.Core.Path.{_≡_, refl, ap, _∙_}
-use mathlib.Core.Bool.{Bool, false, _||_}
+use mathlib.Core.Bool.{Bool, false, cond, _||_}
 use mathlib.Core.List.{List, [], _∷_, _++_}
 use native.Mathlib.Omega.{arith}
 use lib.ListN.{drop, getD}
 use lib.Dec.{eqb, eqb·suc-zero}
 use borrow.Author.Tests.{eq-eqb}
-use Rattle.fields.specs.Parts.{before, startOf, entryAt}
+use Rattle.fields.specs.Parts.{before}
 use Rattle.fields.specs.Truth.{neither}
+
+unfoldable pub startOf : List ℕ → ℕ → ℕ → ℕ
+startOf [] mark n = 0
+startOf (b ∷ bs) mark n = cond (eqb n 0) 0 (1 + startOf bs mark (cond (eqb b mark) (n - 1) n))
+
+unfoldable pub entryAt : List ℕ → ℕ → ℕ → List ℕ
+entryAt list mark n = before mark (drop (startOf list mark n) list)
 
 module _ (mark : ℕ) where
   abbrev pub joined : List (List ℕ) → List ℕ

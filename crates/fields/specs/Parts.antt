@@ -1,11 +1,9 @@
 -- Document 01, 'PSID and RSID', last paragraph: a text cut at a zero, and a payload put into memory.
 -- before, beforeZero   'cut before the first zero among them', and so before any mark, byte by byte with unlessMark
--- startOf      where the part of a list begins that has so many marks before it
--- entryAt      an entry by its number, of a list with a mark behind each, for the words of programs (its law: Entries.antt)
 -- front        numbers in the first cells of a list, as many as fit, and the cells behind them as they stood
 -- put          the bytes p in the place of those from a on, 'every cell but the payload's as it stood'
-use Prim.Native.Nat.{ℕ, _+_, _-_, min}
-use mathlib.Core.Bool.{Bool, true, false, cond}
+use Prim.Native.Nat.{ℕ, _+_, min}
+use mathlib.Core.Bool.{Bool, true, false}
 use mathlib.Core.List.{List, [], _∷_, _++_}
 use lib.ListN.{length, take, drop}
 use lib.Dec.{eqb}
@@ -20,13 +18,6 @@ before mark (b ∷ bs) = unlessMark (eqb b mark) b (before mark bs)
 
 abbrev pub beforeZero : List ℕ → List ℕ
 beforeZero s = before 0 s
-
-unfoldable pub startOf : List ℕ → ℕ → ℕ → ℕ
-startOf [] mark n = 0
-startOf (b ∷ bs) mark n = cond (eqb n 0) 0 (1 + startOf bs mark (cond (eqb b mark) (n - 1) n))
-
-unfoldable pub entryAt : List ℕ → ℕ → ℕ → List ℕ
-entryAt list mark n = before mark (drop (startOf list mark n) list)
 
 unfoldable pub put : List ℕ → ℕ → List ℕ → List ℕ
 put m a p = take a m ++ p ++ drop (a + length p) m

@@ -1,16 +1,23 @@
 // Numbers, parts and texts in lent bytes, and the copy of bytes into memory, for crates of ours. A read past the end gives
 // 0, so that no reader needs to know a length first.
 ghost use mathlib.Core.Path.{_≡_};
-ghost use Prim.Native.Nat.{_+_, _≤_};
+ghost use Prim.Native.Nat.{_+_, _*_, _≤_};
 ghost use lib.ListN.{length, getD, take, drop};
 ghost use Rattle.fields.specs.Numbers.{be16, be32, le16};
-ghost use Rattle.fields.specs.Parts.{before, startOf, entryAt, put};
+ghost use Rattle.fields.specs.Parts.{before, put};
+ghost use Rattle.fields.specs.Entries.{startOf, entryAt};
 
 // internal: the byte at k, 0 past the end.
 pub fn byte_at(s: &[u8], k: usize) -> u8
     ensures { λ r. ⌜ r ≡ getD (now (s .entry)) k 0 ⌝ }
 {
     if k < s.len() { s[k] } else { 0 }
+}
+
+fn word(high: u8, low: u8) -> u16
+    ensures { λ r. ⌜ r ≡ high * 256 + low ⌝ }
+{
+    high as u16 * 256 + low as u16
 }
 
 // internal: two bytes from k on, high byte first.
@@ -20,9 +27,9 @@ pub fn be16(s: &[u8], k: usize) -> u16
     if s.len() <= k {
         return 0;
     }
-    let high = byte_at(s, k);
-    let low = byte_at(s, k + 1);
-    high as u16 * 256 + low as u16
+    let first = byte_at(s, k);
+    let second = byte_at(s, k + 1);
+    word(first, second)
 }
 
 // internal: two bytes from k on, low byte first.
@@ -32,9 +39,9 @@ pub fn le16(s: &[u8], k: usize) -> u16
     if s.len() <= k {
         return 0;
     }
-    let low = byte_at(s, k);
-    let high = byte_at(s, k + 1);
-    low as u16 + high as u16 * 256
+    let first = byte_at(s, k);
+    let second = byte_at(s, k + 1);
+    word(second, first)
 }
 
 // internal: four bytes from k on, high byte first.

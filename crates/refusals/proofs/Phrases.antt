@@ -9,8 +9,7 @@ use native.Mathlib.Omega.{arith}
 use lib.Dec.{ltb}
 use lib.ListN.{getD}
 use borrow.Author.Tests.{ne-eqb, ltb-true}
-use Rattle.fields.specs.Parts.{entryAt}
-use Rattle.fields.specs.Entries.{joined, entry-joined}
+use Rattle.fields.specs.Entries.{entryAt, joined, entry-joined}
 use Rattle.refusals.specs.Numbers.{Reason, numberOf}
 use Rattle.refusals.specs.Laws.{both}
 use Rattle.refusals.specs.Reasons.{table, found, phraseAt}

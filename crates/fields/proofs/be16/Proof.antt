@@ -10,18 +10,9 @@ returns c = be16-past _ _ (c .if1 .taken)
 
 returns-2 : tie.Need-returns-2
 unfolding be16
-returns-2 c = rw (c .before .byte-at .ensures, c .byte-at2 .ensures)
+returns-2 c = rw (c .word .ensures, c .before .before .byte-at .ensures, c .before .byte-at2 .ensures)
 
 pub be16-spec : {M : Type 1} → statement M
 be16-spec =
     tie.close
-    (tie.spec
-    returns
-    (λ c κs. search needs)
-    (λ c. search needs)
-    (λ c κs. search needs)
-    (λ c. search needs)
-    (λ c. search needs)
-    (λ c. search needs)
-    (λ c. search needs)
-    returns-2)
+    (tie.spec returns (λ c κs. search needs) (λ c. search needs) (λ c κs. search needs) (λ c κs. search needs) returns-2)

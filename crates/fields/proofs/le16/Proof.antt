@@ -1,4 +1,5 @@
 -- `le16` meets its contract: past the end both bytes are 0. Assumes nothing.
+use native.Mathlib.Omega.{arith}
 use borrow.Author.Needs.{needs}
 use Rattle.fields.specs.Numbers.{le16}
 use Rattle.fields.proofs.Past.{le16-past}
@@ -10,18 +11,9 @@ returns c = le16-past _ _ (c .if1 .taken)
 
 returns-2 : tie.Need-returns-2
 unfolding le16
-returns-2 c = rw (c .before .byte-at .ensures, c .byte-at2 .ensures)
+returns-2 c = rw (c .word .ensures, c .before .before .byte-at .ensures, c .before .byte-at2 .ensures) (omega arith)
 
 pub le16-spec : {M : Type 1} → statement M
 le16-spec =
     tie.close
-    (tie.spec
-    returns
-    (λ c κs. search needs)
-    (λ c. search needs)
-    (λ c κs. search needs)
-    (λ c. search needs)
-    (λ c. search needs)
-    (λ c. search needs)
-    (λ c. search needs)
-    returns-2)
+    (tie.spec returns (λ c κs. search needs) (λ c. search needs) (λ c κs. search needs) (λ c κs. search needs) returns-2)
