@@ -5,13 +5,13 @@ use Prim.Native.Nat.{ℕ, zero, suc, _<_}
 use mathlib.Core.Path.{_≡_, refl, sym, subst}
 use mathlib.Core.List.{List, [], _∷_}
 use native.Mathlib.Decide.{ℕ-discrete}
+use mathlib.Core.Bool.{cond}
 use lib.Dec.{eqb}
 use lib.ListN.{length, getD, set}
 use lib.Seq.{getD-set-same, getD-set-other}
 use borrow.Author.Tests.{eq-eqb, ne-eqb}
-use Rattle.refusals.specs.Tests.{pick}
 
-pub set-at : (l : List ℕ) (k j x : ℕ) → k < length l → getD (set l k x) j 0 ≡ pick (eqb k j) x (getD l j 0)
+pub set-at : (l : List ℕ) (k j x : ℕ) → k < length l → getD (set l k x) j 0 ≡ cond (eqb k j) x (getD l j 0)
 set-at l k j x h =
     elim (ℕ-discrete k j) [
       | yes p ↦ rw (eq-eqb k j p) (subst (λ (y : ℕ). getD (set l k x) y 0 ≡ x) p (getD-set-same l k x 0 h))

@@ -5,7 +5,7 @@
 -- events-walked   a voice has no more events than pairs walked
 use Prim.Native.Nat.{ℕ, zero, suc, _+_, _*_, _≤_}
 use mathlib.Core.Path.{_≡_, sym, _∙_}
-use mathlib.Core.Bool.{Bool, true, false}
+use mathlib.Core.Bool.{Bool, true, false, cond}
 use mathlib.Core.List.{List}
 use native.Mathlib.Nat.{le-refl, suc-mul, zero-mul}
 use native.Mathlib.Omega.{arith}
@@ -13,7 +13,6 @@ use lib.Dec.{eqb}
 use lib.ListN.{length, length-append}
 use Rattle.meaning.specs.declared.Meaning.{Meaning}
 use Rattle.refusals.specs.Numbers.{Outcome}
-use Rattle.refusals.specs.Tests.{pick}
 use Rattle.bodies.specs.Bodies.{Event, Body, done, event, repeat, phrase, call, bodyOf}
 use Rattle.bodies.specs.Playing.{Interpretation, interpret, learn, phrases, phrasesOf, ofVoice, copies, playing, walking, played, eventsOf, walkedOf}
 
@@ -36,7 +35,7 @@ module _ {A B : Type 0} (m : Interpretation A) (n : Interpretation B) (R : A →
   learned : (k j : ℕ) (a : A) (b : B) (ρ : ℕ → A) (σ : ℕ → B) → R a b → R (ρ j) (σ j) → R (learn k a ρ j) (learn k b σ j)
   learned k j a b ρ σ x y = go (eqb k j)
     where
-      go : (t : Bool) → R (pick t a (ρ j)) (pick t b (σ j))
+      go : (t : Bool) → R (cond t a (ρ j)) (cond t b (σ j))
       go true = x
       go false = y
 

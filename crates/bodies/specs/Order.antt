@@ -10,13 +10,12 @@
 -- Sound         a voice is one body, in order and shut
 use Prim.Native.Nat.{ℕ}
 use mathlib.Core.Path.{_≡_}
-use mathlib.Core.Bool.{Bool, true, false, _||_}
+use mathlib.Core.Bool.{Bool, true, false, _||_, cond}
 use mathlib.Core.List.{List, [], _∷_, _++_}
 use mathlib.Core.Logic.{_⊎_}
 use lib.Dec.{eqb}
 use Rattle.meaning.specs.declared.Meaning.{Meaning}
 use Rattle.refusals.specs.Numbers.{Outcome}
-use Rattle.refusals.specs.Tests.{pick}
 use Rattle.bodies.specs.Bodies.{Closer, byTal, byEnd, byStop, Body, done, event, repeat, phrase, call, outer, bodies, bodyOf}
 
 abbrev pub also : ℕ → (ℕ → Bool) → ℕ → Bool
@@ -54,7 +53,7 @@ unfoldable pub definitions : ℕ → Body → List Body
 definitions k (done c) = []
 definitions k (event e r) = definitions k r
 definitions k (repeat n i r) = definitions k i ++ definitions k r
-definitions k (phrase j i r) = pick (eqb j k) (i ∷ []) [] ++ (definitions k i ++ definitions k r)
+definitions k (phrase j i r) = cond (eqb j k) (i ∷ []) [] ++ (definitions k i ++ definitions k r)
 definitions k (call j r) = definitions k r
 
 unfoldable pub Called : ℕ → Body → Type 0

@@ -11,11 +11,11 @@
 -- nesting, depthOf    'Depth counts repeats and calls in progress at once'
 use Prim.Native.Nat.{ℕ, zero, suc, _+_, _*_, max}
 use mathlib.Core.List.{List, [], _∷_, _++_}
+use mathlib.Core.Bool.{cond}
 use lib.Dec.{eqb}
 use lib.ListN.{length}
 use Rattle.meaning.specs.declared.Meaning.{Meaning}
 use Rattle.refusals.specs.Numbers.{Outcome}
-use Rattle.refusals.specs.Tests.{pick}
 use Rattle.bodies.specs.Bodies.{Event, Body, done, event, repeat, phrase, call, bodyOf}
 
 pub record Interpretation (A : Type 0) : Type 0 where
@@ -33,7 +33,7 @@ interpret m of (phrase k i r) = m .defined (interpret m of i) (interpret m of r)
 interpret m of (call k r) = m .called (of k) (interpret m of r)
 
 abbrev pub learn : {A : Type 0} → ℕ → A → (ℕ → A) → ℕ → A
-learn k a of j = pick (eqb k j) a (of j)
+learn k a of j = cond (eqb k j) a (of j)
 
 unfoldable pub phrases : {A : Type 0} → Interpretation A → (ℕ → A) → Body → ℕ → A
 phrases m of (done c) = of

@@ -3,14 +3,14 @@
 -- narrow-song     of a MUS file
 use Prim.Native.Nat.{ℕ, _+_, _≤_}
 use mathlib.Core.Path.{_≡_, refl, sym, subst}
-use mathlib.Core.Bool.{Bool, true, false, not, _&&_, _||_}
+use mathlib.Core.Bool.{Bool, true, false, not, _&&_, _||_, cond}
 use mathlib.Core.List.{List}
 use native.Mathlib.Omega.{arith}
 use lib.Dec.{eqb, lit≤}
 use lib.ListN.{length, take, drop, length-take, length-drop}
 use borrow.Author.Tests.{eqb-true}
+use Rattle.fields.specs.Parts.{partOf}
 use Rattle.refusals.specs.Numbers.Outcome.{accepted}
-use Rattle.refusals.specs.Tests.{pick}
 use Rattle.fields.specs.Laws.{length-before}
 use Rattle.sidheader.specs.declared.Fields.{Fields}
 use Rattle.sidheader.specs.Fields.{fieldsOf}
@@ -21,9 +21,9 @@ use Rattle.sid.specs.declared.Header.{Header}
 use Rattle.sid.specs.Header.{headerOf, spanAt}
 use Rattle.sid.specs.Answers.{sidOutcome}
 use Rattle.sid.specs.Laws.{header, accepted-none, accepted-header, accepted-fits}
-use Rattle.container.specs.declared.Span.{Span}
+use Rattle.fields.specs.declared.Span.{Span}
 use Rattle.container.specs.Layout.{layoutOf}
-use Rattle.container.specs.Laws.{partOf, short-file, voice1-fits, voice2-fits, voice3-fits}
+use Rattle.container.specs.Laws.{short-file, voice1-fits, voice2-fits, voice3-fits}
 use Rattle.mus.specs.declared.Song.{Song}
 use Rattle.mus.specs.Song.{musOutcome}
 use Rattle.mus.specs.Laws.{voiceOf, songOf, accepted-clear}
@@ -62,7 +62,7 @@ narrow-header f h e =
       payload = record { from = go (addressed x) low; len = omega arith };
     }
   where
-    go : (b : Bool) → fieldsOf f .offset ≤ 0x7C → pick b (after f (fieldsOf f)) (whole (fieldsOf f)) .from ≤ 65538
+    go : (b : Bool) → fieldsOf f .offset ≤ 0x7C → cond b (after f (fieldsOf f)) (whole (fieldsOf f)) .from ≤ 65538
     go true l = omega arith
     go false l = omega arith
 

@@ -10,12 +10,14 @@ use mathlib.Core.List.{List, [], _∷_}
 use native.Mathlib.Omega.{arith}
 use lib.Dec.{lit≤, eqb, ltb}
 use lib.ListN.{length, drop, length-take, length-drop}
+use Rattle.fields.specs.Parts.{partOf}
 use Rattle.refusals.specs.Numbers.{Outcome}
 use Rattle.refusals.specs.Numbers.Outcome.{accepted, refused}
 use Rattle.refusals.specs.declared.Verdict.{Verdict}
 use Rattle.refusals.specs.declared.Verdict.the-variants.{Passed, Failed}
 use Rattle.refusals.specs.Numbers.Reason.{memorySize, noSuchSong}
 use Rattle.refusals.specs.Tests.{Test, test, firstOf, guarded}
+use Rattle.refusals.specs.Laws.{first-above}
 use Rattle.meaning.specs.declared.Meaning.{Meaning}
 use Rattle.sidheader.specs.Fields.{fieldsOf}
 use Rattle.sidheader.specs.Payload.{payloadOf}
@@ -25,10 +27,9 @@ use Rattle.sid.specs.Header.{headerOf}
 use Rattle.sid.specs.Answers.{sidOutcome}
 use Rattle.sid.specs.Loading.{loadOutcome}
 use Rattle.sid.specs.Speed.{speedBit, songSpeed, speedOutcome}
-use Rattle.container.specs.declared.Span.{Span}
+use Rattle.fields.specs.declared.Span.{Span}
 use Rattle.container.specs.declared.Layout.{Layout}
 use Rattle.container.specs.Layout.{layoutOf, containerTests, containerOutcome}
-use Rattle.container.specs.Laws.{partOf}
 use Rattle.bodies.specs.Voice.{pairs}
 use Rattle.bodies.specs.Playing.{eventsOf, walkedOf}
 use Rattle.bodies.proofs.Stored.{length-pairs}
@@ -45,7 +46,7 @@ use Rattle.mus.specs.Song.{next, voiceIn, songWith, songIn, musOutcome}
 use Rattle.mus.specs.Bounds.{InFile}
 use Rattle.mus.proofs.Outcomes.{in-file}
 use Rattle.events.specs.Listing.{callerTests, filledBy, listing}
-use Rattle.capi.proofs.Numbers.{first-above, found-above}
+use Rattle.capi.proofs.Numbers.{found-above}
 
 abbrev pub Low : {A : Type 0} → Outcome A → Type 0
 Low (accepted a) = Unit

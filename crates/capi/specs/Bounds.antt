@@ -2,7 +2,7 @@
 -- NarrowSpan, Narrow        a part of a file; the parts of a header
 -- NarrowVoice, NarrowSong   a voice; the voices of a song
 use Prim.Native.Nat.{_≤_}
-use Rattle.sid.specs.declared.Span.{Span}
+use Rattle.fields.specs.declared.Span.{Span}
 use Rattle.sid.specs.declared.Header.{Header}
 use Rattle.mus.specs.declared.Voice.{Voice}
 use Rattle.mus.specs.declared.Song.{Song}

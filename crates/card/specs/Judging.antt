@@ -6,11 +6,11 @@
 -- judged      a file
 use Prim.Native.Nat.{ℕ}
 use mathlib.Core.List.{List}
+use mathlib.Core.Bool.{cond}
 use lib.Dec.{eqb, leb}
 use Rattle.refusals.specs.Numbers.{Outcome, numberOf}
 use Rattle.refusals.specs.Numbers.Outcome.{accepted, refused}
 use Rattle.refusals.specs.Numbers.Reason.{voicesPastFile}
-use Rattle.refusals.specs.Tests.{pick}
 use Rattle.fields.specs.Numbers.{be32}
 use Rattle.sidheader.specs.Fields.{psid, rsid}
 use Rattle.sid.specs.declared.Kind.{Kind}
@@ -42,9 +42,9 @@ asTune kind (refused number place) = refusedTune kind number place
 
 abbrev pub asSong : Outcome Song → Judgement
 asSong (accepted s) = song s
-asSong (refused number place) = pick (leb number (numberOf voicesPastFile)) (neither number place) (refusedSong number place)
+asSong (refused number place) = cond (leb number (numberOf voicesPastFile)) (neither number place) (refusedSong number place)
 
 abbrev pub judged : List ℕ → Judgement
 judged f =
-    pick (eqb (be32 f 0) psid) (asTune Psid (sidOutcome f))
-    (pick (eqb (be32 f 0) rsid) (asTune Rsid (sidOutcome f)) (asSong (musOutcome f)))
+    cond (eqb (be32 f 0) psid) (asTune Psid (sidOutcome f))
+    (cond (eqb (be32 f 0) rsid) (asTune Rsid (sidOutcome f)) (asSong (musOutcome f)))

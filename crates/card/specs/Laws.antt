@@ -3,15 +3,14 @@
 -- song-judged   a file that is accepted as MUS: begun with PSID or RSID, the length of its first voice would be odd (23)
 use Prim.Native.Nat.{ℕ, _+_, _*_, _<_, _%_}
 use mathlib.Core.Path.{_≡_, refl, sym, subst}
-use mathlib.Core.Bool.{Bool, true, false, not, _&&_, false≢true}
+use mathlib.Core.Bool.{Bool, true, false, not, _&&_, false≢true, cond}
 use mathlib.Core.List.{List}
 use native.Mathlib.Omega.{arith}
 use lib.Dec.{eqb, lit<}
 use lib.ListN.{getD}
 use borrow.Author.Tests.{eqb-false, ne-eqb}
+use Rattle.logic.specs.Truth.{neither}
 use Rattle.refusals.specs.Numbers.Outcome.{accepted}
-use Rattle.refusals.specs.Laws.{neither}
-use Rattle.refusals.specs.Tests.{pick}
 use Rattle.fields.specs.Numbers.{be16, be32, le16}
 use Rattle.sidheader.specs.Fields.{psid, rsid, fieldsOf}
 use Rattle.sidrefusals.specs.PayloadTests.{sidTests}
@@ -31,7 +30,7 @@ pub tune-judged : (f : List ℕ) (h : Header) → sidOutcome f ≡ accepted h �
 unfolding sidTests fieldsOf
 tune-judged f h e = rw e (go (eqb (be32 f 0) psid) (eqb (be32 f 0) rsid) (accepted-none f h e .1 .0))
   where
-    go : (p r : Bool) → not p && not r ≡ false → pick p (asTune Psid (accepted h)) (pick r (asTune Rsid (accepted h)) (asSong (musOutcome f))) ≡ judging.Judgement.tune h
+    go : (p r : Bool) → not p && not r ≡ false → cond p (asTune Psid (accepted h)) (cond r (asTune Rsid (accepted h)) (asSong (musOutcome f))) ≡ judging.Judgement.tune h
     go true r q = refl
     go false true q = refl
     go false false q = absurd (false≢true (sym q))

@@ -4,11 +4,11 @@ use crate::text::hex_byte;
 use crate::text::number;
 use crate::text::quote;
 use crate::text::write;
+use fields::Span;
 use mus::Song;
 use refusals::Refusal;
 use sid::Header;
 use sid::Kind;
-use sid::Span;
 use std::num::wrapping_add_usize;
 use std::num::wrapping_sub_usize;
 
@@ -65,7 +65,7 @@ pub fn song(file: &[u8], s: Song) {
 // The number's phrase.
 fn reason(number: u32) {
     let mut words = [0u8; 80];
-    let n = refusals::reasons::reason(number, &mut words);
+    let n = reasons::reason(number, &mut words);
     write(fields::part(&words, 0, n));
 }
 

@@ -5,7 +5,7 @@
 -- cursor-step   one event goes by: the cursor stays within the cells asked for, and enough events are left
 use Prim.Native.Nat.{ℕ, suc, _+_, _-_, _<_, _≤_}
 use mathlib.Core.Path.{_≡_, refl, sym, ap, _∙_}
-use mathlib.Core.Bool.{Bool, true, false}
+use mathlib.Core.Bool.{Bool, true, false, cond}
 use mathlib.Core.List.{List, _∷_, _++_}
 use native.Mathlib.Nat.{sub-zero, sub-self}
 use native.Mathlib.Numerals.{add-one}
@@ -14,7 +14,6 @@ use lib.Dec.{eqb}
 use borrow.Author.Tests.{eqb-true, eqb-false}
 use lib.ListN.{length, take, drop, set, length-set, take-append-drop}
 use lib.Seq.{take-suc-set, drop-set-lt, append-snoc}
-use Rattle.refusals.specs.Tests.{pick}
 use Rattle.cells.specs.declared.Cursor.{Cursor}
 use Rattle.cells.specs.Window.{filled}
 use Rattle.cells.specs.Cells.{cursorAfter, cellsAfter}
@@ -33,7 +32,7 @@ fills-step count c x xs cells target f h = go (eqb (c .skip) 0) refl
     one-less n s = omega arith
 
     go : (b : Bool) → eqb (c .skip) 0 ≡ b
-        → Fills count (pick b (record { skip = 0; filled = c .filled + 1 }) (record { skip = c .skip - 1; filled = c .filled })) xs (pick b (set cells (c .filled) x) cells) target
+        → Fills count (cond b (record { skip = 0; filled = c .filled + 1 }) (record { skip = c .skip - 1; filled = c .filled })) xs (cond b (set cells (c .filled) x) cells) target
     go true e =
         let none : c .skip ≡ 0 = eqb-true (c .skip) 0 e in
         let more : count - c .filled ≡ suc (count - (c .filled + 1)) = omega arith in
@@ -55,7 +54,7 @@ fills-end count c xs cells target f e =
 pub cells-length : (c : Cursor) (x : ℕ) (cells : List ℕ) → length (cellsAfter c x cells) ≡ length cells
 cells-length c x cells = go (eqb (c .skip) 0)
   where
-    go : (b : Bool) → length (pick b (set cells (c .filled) x) cells) ≡ length cells
+    go : (b : Bool) → length (cond b (set cells (c .filled) x) cells) ≡ length cells
     go true = length-set cells (c .filled) x
     go false = refl
 
@@ -64,8 +63,8 @@ pub cursor-step : (count n : ℕ) (c : Cursor) → c .filled < count → count -
 cursor-step count n c h s = go (eqb (c .skip) 0) refl
   where
     go : (b : Bool) → eqb (c .skip) 0 ≡ b
-        → (pick {A = Cursor} b (record { skip = 0; filled = c .filled + 1 }) (record { skip = c .skip - 1; filled = c .filled }) .filled ≤ count)
-        × (count - pick {A = Cursor} b (record { skip = 0; filled = c .filled + 1 }) (record { skip = c .skip - 1; filled = c .filled }) .filled
-        ≤ n - pick {A = Cursor} b (record { skip = 0; filled = c .filled + 1 }) (record { skip = c .skip - 1; filled = c .filled }) .skip)
+        → (cond {A = Cursor} b (record { skip = 0; filled = c .filled + 1 }) (record { skip = c .skip - 1; filled = c .filled }) .filled ≤ count)
+        × (count - cond {A = Cursor} b (record { skip = 0; filled = c .filled + 1 }) (record { skip = c .skip - 1; filled = c .filled }) .filled
+        ≤ n - cond {A = Cursor} b (record { skip = 0; filled = c .filled + 1 }) (record { skip = c .skip - 1; filled = c .filled }) .skip)
     go true e = (omega arith, omega (arith, eqb-true (c .skip) 0 e))
     go false e = (omega arith, omega (arith, eqb-false (c .skip) 0 e))

@@ -3,14 +3,14 @@
 -- cellsAfter    a list behind it
 use Prim.Native.Nat.{ℕ, _+_, _-_}
 use mathlib.Core.List.{List}
+use mathlib.Core.Bool.{cond}
 use lib.Dec.{eqb}
 use lib.ListN.{set}
-use Rattle.refusals.specs.Tests.{pick}
 use Rattle.cells.specs.declared.Cursor.{Cursor}
 
 abbrev pub cursorAfter : Cursor → Cursor
 cursorAfter c =
-    pick (eqb (c .skip) 0) (record { skip = 0; filled = c .filled + 1 }) (record { skip = c .skip - 1; filled = c .filled })
+    cond (eqb (c .skip) 0) (record { skip = 0; filled = c .filled + 1 }) (record { skip = c .skip - 1; filled = c .filled })
 
 abbrev pub cellsAfter : Cursor → ℕ → List ℕ → List ℕ
-cellsAfter c x cells = pick (eqb (c .skip) 0) (set cells (c .filled) x) cells
+cellsAfter c x cells = cond (eqb (c .skip) 0) (set cells (c .filled) x) cells

@@ -22,7 +22,7 @@ use Rattle.meaning.specs.declared.Duration.the-variants.{Whole, Half, Quarter, 
 use Rattle.meaning.specs.declared.Shape.{Shape}
 use Rattle.meaning.specs.declared.Shape.the-variants.{Plain, Dotted, DoubleDotted, Triplet}
 use Rattle.meaning.specs.declared.Meaning.{Meaning}
-use Rattle.meaning.specs.Every.{every-at}
+use Rattle.logic.specs.Every.{every-at}
 use Rattle.refusals.specs.Numbers.{Outcome}
 use Rattle.note.specs.Reading as Reading
 use Rattle.note.specs.Reading.{noteOf}

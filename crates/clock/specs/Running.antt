@@ -7,7 +7,7 @@
 -- length-bound    no event is longer than a double dotted whole note at tempo 256
 use Prim.Native.Nat.{ℕ, zero, suc, _+_, _/_, _≤_, _<_}
 use mathlib.Core.Path.{_≡_, refl, ap, sym, _∙_}
-use mathlib.Core.Bool.{Bool, true, false}
+use mathlib.Core.Bool.{Bool, true, false, cond}
 use mathlib.Core.List.{List, [], _∷_, map}
 use native.Mathlib.Omega.{arith}
 use native.Mathlib.Nat.{not-suc-le-zero, le-of-suc-le-suc}
@@ -20,7 +20,6 @@ use Rattle.meaning.specs.declared.Shape.{Shape}
 use Rattle.meaning.specs.declared.Shape.the-variants.{Plain, Dotted, DoubleDotted, Triplet}
 use Rattle.meaning.specs.declared.Meaning.{Meaning}
 use Rattle.refusals.specs.Numbers.{Outcome}
-use Rattle.refusals.specs.Tests.{pick}
 use Rattle.command.specs.Others.{tempoOf}
 use Rattle.pair.specs.Pairs.{meaningOf}
 use Rattle.clock.specs.declared.Values.{Values}
@@ -81,14 +80,14 @@ start-moderate = record { tempo = lit≤ tt; utl = lit≤ tt; utv = lit≤ tt }
 tempo-low : (b : ℕ) → b < 256 → tempoOf b ≤ 256
 tempo-low b h = go (eqb b 0)
   where
-    go : (s : Bool) → pick s 256 b ≤ 256
+    go : (s : Bool) → cond s 256 b ≤ 256
     go true = lit≤ tt
     go false = omega arith
 
 pub moderate-after : (q : Values) (a b : ℕ) → a < 256 → b < 256 → Moderate q → Moderate (valuesAfter q (meaningOf a b))
 moderate-after q a b ha hb m = rw (values-are q a b ha hb) (go (eqb a 0x06) (eqb a 0x16) (eqb a 0xF6))
   where
-    go : (s t u : Bool) → Moderate (setBy q (pick s (setsTempo (tempoOf b)) (pick t (setsUtl b) (pick u (setsUtv b) noTime))))
+    go : (s t u : Bool) → Moderate (setBy q (cond s (setsTempo (tempoOf b)) (cond t (setsUtl b) (cond u (setsUtv b) noTime))))
     go true t u = record { tempo = tempo-low b hb; utl = m .utl; utv = m .utv }
     go false true u = record { tempo = m .tempo; utl = omega arith; utv = m .utv }
     go false false true = record { tempo = m .tempo; utl = m .utl; utv = omega arith }

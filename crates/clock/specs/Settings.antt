@@ -4,7 +4,7 @@
 -- length-command  a command's length: 'commands take 0'
 use Prim.Native.Nat.{ℕ, _+_, _*_, _%_, _<_}
 use mathlib.Core.Path.{_≡_, refl, sym, _∙_}
-use mathlib.Core.Bool.{Bool, true, false}
+use mathlib.Core.Bool.{Bool, true, false, cond}
 use mathlib.Core.List.{List}
 use native.Mathlib.Omega.{arith}
 use native.Mathlib.Nat.{zero-add}
@@ -15,10 +15,9 @@ use lib.ListN.{drop}
 use borrow.Author.Tests.{ne-eqb, eqb-true}
 use Rattle.meaning.specs.declared.Meaning.{Meaning}
 use Rattle.meaning.specs.declared.Meaning.the-variants.{Vdp, Pvd, Pvr, Jif}
-use Rattle.meaning.specs.Every.{every, every-at, same, same-equal}
+use Rattle.logic.specs.Every.{every, every-at, same, same-equal}
 use Rattle.refusals.specs.Numbers.{Outcome}
 use Rattle.refusals.specs.Numbers.Outcome.{accepted}
-use Rattle.refusals.specs.Tests.{pick}
 use Rattle.command.specs.Patterns.{Symbol, O, I, n, byte, fits, number}
 use Rattle.command.specs.Codes.{secondOutcome}
 use Rattle.command.specs.Signs.{outOfRange, scaOutcome, tpsOutcome, rtpOutcome, jifOutcome}
@@ -31,7 +30,7 @@ use Rattle.clock.specs.Timing.{Timing, lasts, setsTempo, setsUtl, setsUt
 use Rattle.clock.specs.Lengths.{lengthIn, lengthOf, setBy, valuesAfter}
 
 abbrev pub settingOf : ℕ → ℕ → Timing
-settingOf a b = pick (eqb a 0x06) (setsTempo (tempoOf b)) (pick (eqb a 0x16) (setsUtl b) (pick (eqb a 0xF6) (setsUtv b) noTime))
+settingOf a b = cond (eqb a 0x06) (setsTempo (tempoOf b)) (cond (eqb a 0x16) (setsUtl b) (cond (eqb a 0xF6) (setsUtv b) noTime))
 
 abbrev Untimed : Outcome Meaning → Type 0
 Untimed x = timingOf x ≡ noTime
@@ -61,7 +60,7 @@ missed p k t a h ne e =
 
 jif-untimed : (v : ℕ) → Untimed (jifOutcome v)
 jif-untimed v =
-    picked Untimed (leb v 757) (accepted (Jif (subℕ v 0))) (pick (leb v 823) outOfRange (accepted (Jif (subℕ v 1024)))) (λ t. refl)
+    picked Untimed (leb v 757) (accepted (Jif (subℕ v 0))) (cond (leb v 823) outOfRange (accepted (Jif (subℕ v 1024)))) (λ t. refl)
     (picked Untimed (leb v 823) outOfRange (accepted (Jif (subℕ v 1024))) (λ t. refl) refl)
 
 other-untimed : (a b : ℕ) → a < 256 → b < 256 → (a ≡ 0x06 → ⊥) → (a ≡ 0x16 → ⊥) → (a ≡ 0xF6 → ⊥) → Untimed (otherOutcome a b)
@@ -108,7 +107,7 @@ pub length-command : (q : Values) (a b : ℕ) → a < 256 → b < 256 → (a % 4
 unfolding lengthOf
 length-command q a b ha hb p = rw (ne-eqb (a % 4) 0 p, setting-is a b ha hb) (go (eqb a 0x06) (eqb a 0x16) (eqb a 0xF6))
   where
-    go : (s t u : Bool) → lengthIn q (pick s (setsTempo (tempoOf b)) (pick t (setsUtl b) (pick u (setsUtv b) noTime))) ≡ 0
+    go : (s t u : Bool) → lengthIn q (cond s (setsTempo (tempoOf b)) (cond t (setsUtl b) (cond u (setsUtv b) noTime))) ≡ 0
     go true t u = refl
     go false true u = refl
     go false false true = refl

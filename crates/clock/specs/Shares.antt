@@ -7,28 +7,27 @@
 -- shares-are      the product with the tempo is the length
 use Prim.Native.Nat.{ℕ, _*_, _/_, _%_, _≤_, _<_}
 use mathlib.Core.Path.{_≡_}
-use mathlib.Core.Bool.{Bool, true, false}
+use mathlib.Core.Bool.{Bool, true, false, cond}
 use native.Mathlib.Omega.{arith}
 use native.Mathlib.Nat.{mul-comm, mul-assoc}
 use lib.Dec.{eqb, leb, leb→le}
 use Rattle.meaning.specs.declared.Duration.the-variants.{Whole, Half, Quarter, Eighth, Sixteenth, ThirtySecond}
 use Rattle.meaning.specs.declared.Shape.the-variants.{Plain, Dotted, DoubleDotted, Triplet}
-use Rattle.meaning.specs.Every.{every-at}
-use Rattle.refusals.specs.Tests.{pick}
+use Rattle.logic.specs.Every.{every-at}
 use Rattle.note.specs.Reading.{shapeOf, valueOf}
 use Rattle.clock.specs.declared.Values.{Values}
 use Rattle.clock.specs.Lengths.{plainLength, shaped}
 
 abbrev pub thirtySeconds : ℕ → ℕ
 thirtySeconds code =
-    pick (eqb code 2) 32
-    (pick (eqb code 3) 16
-    (pick (eqb code 4) 8
-    (pick (eqb code 5) 4
-    (pick (eqb code 6) 2 1))))
+    cond (eqb code 2) 32
+    (cond (eqb code 3) 16
+    (cond (eqb code 4) 8
+    (cond (eqb code 5) 4
+    (cond (eqb code 6) 2 1))))
 
 abbrev pub twelfthsOf : ℕ → ℕ → ℕ
-twelfthsOf bit7 bit5 = pick (eqb bit7 0) (pick (eqb bit5 0) 12 18) (pick (eqb bit5 0) 8 21)
+twelfthsOf bit7 bit5 = cond (eqb bit7 0) (cond (eqb bit5 0) 12 18) (cond (eqb bit5 0) 8 21)
 
 abbrev pub shares : ℕ → ℕ
 shares a = thirtySeconds (a / 4 % 8) * twelfthsOf (a / 128) (a / 32 % 2)
@@ -40,8 +39,8 @@ plain-share : (q : Values) (code : ℕ) → plainLength q (valueOf code) ≡ 12 
 plain-share q code = go (eqb code 2) (eqb code 3) (eqb code 4) (eqb code 5) (eqb code 6)
   where
     go : (a b c d e : Bool)
-        → plainLength q (pick a Whole (pick b Half (pick c Quarter (pick d Eighth (pick e Sixteenth ThirtySecond)))))
-        ≡ 12 * (pick a 32 (pick b 16 (pick c 8 (pick d 4 (pick e 2 1)))) * q .tempo)
+        → plainLength q (cond a Whole (cond b Half (cond c Quarter (cond d Eighth (cond e Sixteenth ThirtySecond)))))
+        ≡ 12 * (cond a 32 (cond b 16 (cond c 8 (cond d 4 (cond e 2 1)))) * q .tempo)
     go true b c d e = omega arith
     go false true c d e = omega arith
     go false false true d e = omega arith
@@ -53,7 +52,7 @@ shaped-share : (bit7 bit5 x : ℕ) → shaped (shapeOf bit7 bit5) (12 * x) ≡ t
 shaped-share bit7 bit5 x = go (eqb bit7 0) (eqb bit5 0)
   where
     go : (s t : Bool)
-        → shaped (pick s (pick t Plain Dotted) (pick t Triplet DoubleDotted)) (12 * x) ≡ pick s (pick t 12 18) (pick t 8 21) * x
+        → shaped (cond s (cond t Plain Dotted) (cond t Triplet DoubleDotted)) (12 * x) ≡ cond s (cond t 12 18) (cond t 8 21) * x
     go true true = omega arith
     go true false = omega arith
     go false true = omega arith

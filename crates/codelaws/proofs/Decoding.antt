@@ -6,7 +6,7 @@
 -- decodes                    so for every number
 use Prim.Native.Nat.{ℕ, _+_, _*_, _-_, _/_, _%_, _<_}
 use mathlib.Core.Path.{_≡_, refl, sym, _∙_, ap, subst}
-use mathlib.Core.Bool.{Bool, true, false}
+use mathlib.Core.Bool.{Bool, true, false, cond}
 use mathlib.Core.List.{List, [], _∷_}
 use native.Mathlib.Omega.{arith}
 use native.Mathlib.Decide.{ℕ-discrete}
@@ -15,7 +15,6 @@ use lib.IntN.{ℤ, pos, negsuc, subℕ}
 use borrow.Author.Tests.{eqb-true, eqb-false, ne-eqb, lt-leb, lt-ltb, le-ltb}
 use Rattle.refusals.specs.Numbers.{Outcome}
 use Rattle.refusals.specs.Numbers.Outcome.{accepted, refused}
-use Rattle.refusals.specs.Tests.{pick}
 use Rattle.meaning.specs.declared.Meaning.{Meaning}
 use Rattle.meaning.specs.declared.Meaning.the-variants as M
 use Rattle.meaning.specs.declared.Tone.the-variants.{Rest, Sounds}
@@ -40,7 +39,7 @@ found : {A : Type 0} (P : A → ℕ → Type 0) (es : List (Entry A)) (k : ℕ) 
 found P [] k h = (refl, refl)
 found P (e ∷ es) k h = go (eqb k (e .digits)) refl (found P es k (h .1))
   where
-    go : (t : Bool) → eqb k (e .digits) ≡ t → Found P k (lookup es k) → Found P k (pick t (accepted (e .value)) (lookup es k))
+    go : (t : Bool) → eqb k (e .digits) ≡ t → Found P k (lookup es k) → Found P k (cond t (accepted (e .value)) (lookup es k))
     go true q rest = subst (P (e .value)) (sym (eqb-true k (e .digits) q)) (h .0)
     go false q rest = rest
 
@@ -74,7 +73,7 @@ tone-found k low = go (eqb k 0) refl
         (λ l el. after-found (λ a i. accidentalDigit a ≡ i) (λ o i. toneDigits o ≡ i) (k / 0x10 % 0x10) k (lookup accidentals (k / 0x10 % 0x10)) _ (accidental-found (k / 0x10 % 0x10))
         (λ a ea. omega arith))
 
-    go : (t : Bool) → eqb k 0 ≡ t → Found (λ o i. toneDigits o ≡ i) k (pick t (accepted Rest) (after (lookup letters (k / 0x100)) (λ l. after (lookup accidentals (k / 0x10 % 0x10)) (λ a. accepted (Sounds (record { letter = l; accidental = a; octave = k % 0x10 }))))))
+    go : (t : Bool) → eqb k 0 ≡ t → Found (λ o i. toneDigits o ≡ i) k (cond t (accepted Rest) (after (lookup letters (k / 0x100)) (λ l. after (lookup accidentals (k / 0x10 % 0x10)) (λ a. accepted (Sounds (record { letter = l; accidental = a; octave = k % 0x10 }))))))
     go true e = sym (eqb-true k 0 e)
     go false e = pitched
 
@@ -331,7 +330,7 @@ decodes n = go (eqb (n / 0x10000000) 1) refl (eqb (n / 0x10000 % 0x10) 0) refl (
         (λ m right. right (n % 0x10000) p))
 
     go : (note : Bool) → eqb (n / 0x10000000) 1 ≡ note → (plus : Bool) → eqb (n / 0x10000 % 0x10) 0 ≡ plus → (minus : Bool) → eqb (n / 0x10000 % 0x10) 1 ≡ minus → (nothing : Bool) → eqb (n % 0x10000) 0 ≡ nothing
-        → Right n (pick note (noteAt n) (pick plus (commandAt plain id (n % 0x10000)) (pick minus (pick nothing none (commandAt negative id (n % 0x10000))) none)))
+        → Right n (cond note (noteAt n) (cond plus (commandAt plain id (n % 0x10000)) (cond minus (cond nothing none (commandAt negative id (n % 0x10000))) none)))
     go true e plus ep minus em nothing en = note-right n (eqb-true (n / 0x10000000) 1 e)
     go false e true ep minus em nothing en =
         command 0 plain Any (omega (arith, split, eqb-true (n / 0x10000 % 0x10) 0 ep)) tt (found (RightFor 0 Any) plain id plain-right)

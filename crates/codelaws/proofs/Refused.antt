@@ -3,13 +3,12 @@
 use Prim.Native.Nat.{ℕ, _+_, _*_, _/_, _%_}
 use mathlib.Core.Path.{refl}
 use mathlib.Core.Logic.{inl, inr}
-use mathlib.Core.Bool.{Bool, true, false, _&&_}
+use mathlib.Core.Bool.{Bool, true, false, _&&_, cond}
 use lib.Dec.{eqb, leb, ltb}
 use lib.IntN.{pos, negsuc, subℕ}
 use lib.Signed.{leZ}
 use Rattle.refusals.specs.Numbers.{Outcome}
 use Rattle.refusals.specs.Numbers.Outcome.{accepted}
-use Rattle.refusals.specs.Tests.{pick}
 use Rattle.meaning.specs.declared.Meaning.{Meaning}
 use Rattle.meaning.specs.declared.Meaning.the-variants as M
 use Rattle.note.specs.Reading.{noteOf}
@@ -26,7 +25,7 @@ use Rattle.codelaws.specs.Statements.{PairRefused}
 range : PairRefused outOfRange
 range = (inr refl, refl)
 
-picked : (t : Bool) (x y : Outcome Meaning) → PairRefused x → PairRefused y → PairRefused (pick t x y)
+picked : (t : Bool) (x y : Outcome Meaning) → PairRefused x → PairRefused y → PairRefused (cond t x y)
 picked true x y p q = p
 picked false x y p q = q
 
@@ -60,7 +59,7 @@ seconds none v = (inl refl, refl)
 
 jif : (raw : ℕ) → PairRefused (jifOutcome raw)
 jif raw =
-    picked (leb raw 757) (accepted (M.Jif (subℕ raw 0))) (pick (leb raw 823) outOfRange (accepted (M.Jif (subℕ raw 1024)))) tt
+    picked (leb raw 757) (accepted (M.Jif (subℕ raw 0))) (cond (leb raw 823) outOfRange (accepted (M.Jif (subℕ raw 1024)))) tt
     (picked (leb raw 823) outOfRange (accepted (M.Jif (subℕ raw 1024))) range tt)
 
 up-to-127 : (v : ℕ) (m : Meaning) → PairRefused (upTo127 v m)
@@ -88,5 +87,5 @@ others a b =
 
 pub pair-refused : (a b : ℕ) → PairRefused (meaningOf a b)
 pair-refused a b =
-    picked (eqb (a % 4) 0) (accepted (M.Note (noteOf a b))) (pick (eqb a 1) (secondOutcome b) (otherOutcome a b)) tt
+    picked (eqb (a % 4) 0) (accepted (M.Note (noteOf a b))) (cond (eqb a 1) (secondOutcome b) (otherOutcome a b)) tt
     (picked (eqb a 1) (secondOutcome b) (otherOutcome a b) (seconds (coded b .command) (coded b .value)) (others a b))

@@ -5,15 +5,14 @@
 -- tone-small           a note's octave
 use Prim.Native.Nat.{ℕ, _+_, _*_, _-_, _/_, _%_, _≤_}
 use mathlib.Core.Path.{_≡_, refl}
-use mathlib.Core.Bool.{Bool, true, false, _&&_, _||_}
+use mathlib.Core.Bool.{Bool, true, false, _&&_, _||_, cond}
 use native.Mathlib.Omega.{arith}
 use lib.Dec.{eqb, leb, ltb}
 use lib.IntN.{ℤ, pos, negsuc}
 use borrow.Author.Tests.{leb-true, ltb-false, eqb-true}
+use Rattle.logic.specs.Truth.{both, neither}
 use Rattle.refusals.specs.Numbers.{Outcome}
 use Rattle.refusals.specs.Numbers.Outcome.{accepted}
-use Rattle.refusals.specs.Tests.{pick}
-use Rattle.refusals.specs.Laws.{both, neither}
 use Rattle.meaning.specs.declared.Note.{Note}
 use Rattle.meaning.specs.declared.Tone.{Tone}
 use Rattle.meaning.specs.declared.Tone.the-variants.{Rest, Sounds}
@@ -32,11 +31,11 @@ none-written : {y : Bytes} → noBytes ≡ accepted y → ⊥
 none-written e = let z : _≡_ {A = ℕ} 0 1 = cc in omega arith
 
 -- what is written only under a test
-tested : (t : Bool) (x : Outcome Bytes) {y : Bytes} → pick t x noBytes ≡ accepted y → t ≡ true
+tested : (t : Bool) (x : Outcome Bytes) {y : Bytes} → cond t x noBytes ≡ accepted y → t ≡ true
 tested true x e = refl
 tested false x e = absurd (none-written e)
 
-untested : (t : Bool) (x : Outcome Bytes) {y : Bytes} → pick t noBytes x ≡ accepted y → t ≡ false
+untested : (t : Bool) (x : Outcome Bytes) {y : Bytes} → cond t noBytes x ≡ accepted y → t ≡ false
 untested true x e = absurd (none-written e)
 untested false x e = refl
 
@@ -47,7 +46,7 @@ module _ (v : ℕ) {y : Bytes} where
   pub phrase-small : (low high : ℕ) → phrase v low high ≡ accepted y → v ≤ 23
   phrase-small low high e = go (leb v 15) refl e
     where
-      go : (t : Bool) → leb v 15 ≡ t → pick t (pair 1 (low + 16 * v)) (pick (leb 17 v && leb v 23) (pair 1 (high + 16 * (v - 16))) noBytes) ≡ accepted y → v ≤ 23
+      go : (t : Bool) → leb v 15 ≡ t → cond t (pair 1 (low + 16 * v)) (cond (leb 17 v && leb v 23) (pair 1 (high + 16 * (v - 16))) noBytes) ≡ accepted y → v ≤ 23
       go true p q = omega (arith, leb-true v 15 p)
       go false p q = leb-true v 23 (both (leb 17 v) (leb v 23) (tested (leb 17 v && leb v 23) (pair 1 (high + 16 * (v - 16))) q) .1)
 
@@ -55,7 +54,7 @@ module _ (v : ℕ) {y : Bytes} where
   destination-small e = go (eqb v 0) refl (eqb v 1) refl (eqb v 2) refl e
     where
       go : (t : Bool) → eqb v 0 ≡ t → (u : Bool) → eqb v 1 ≡ u → (w : Bool) → eqb v 2 ≡ w
-          → pick t (pair 1 0x8F) (pick u (pair 1 0xAF) (pick w (pair 1 0xDF) (pick (eqb v 3) (pair 1 0xEF) noBytes))) ≡ accepted y → v ≤ 3
+          → cond t (pair 1 0x8F) (cond u (pair 1 0xAF) (cond w (pair 1 0xDF) (cond (eqb v 3) (pair 1 0xEF) noBytes))) ≡ accepted y → v ≤ 3
       go true p u q w r s = omega (arith, eqb-true v 0 p)
       go false p true q w r s = omega (arith, eqb-true v 1 q)
       go false p false q true r s = omega (arith, eqb-true v 2 r)
@@ -75,7 +74,7 @@ Small (pos n) = n ≤ 65535
 Small (negsuc n) = n + 1 ≤ 65535
 
 -- a value that has a slot is small
-slotted : (t : Bool) (n : ℕ) (f : ℕ → Outcome Bytes) {y : Bytes} → ofSlot f (pick t (In n) Out) ≡ accepted y → t ≡ true
+slotted : (t : Bool) (n : ℕ) (f : ℕ → Outcome Bytes) {y : Bytes} → ofSlot f (cond t (In n) Out) ≡ accepted y → t ≡ true
 slotted true n f e = refl
 slotted false n f e = absurd (none-written e)
 
@@ -110,7 +109,7 @@ tone-small n {y} e = go (n .tone) (firstByte (n .duration) (n .shape) (n .tied))
     go Rest a q = tt
     go (Sounds p) a q = octave-low p (go-table (inTables p) a q)
       where
-        go-table : (i : Bool) (a : Byte) → note.both a (pick i (Is (accidentalBits (p .accidental) + 8 * (7 - p .octave) + letterNumber (p .letter))) None) ≡ accepted y → i ≡ true
+        go-table : (i : Bool) (a : Byte) → note.both a (cond i (Is (accidentalBits (p .accidental) + 8 * (7 - p .octave) + letterNumber (p .letter))) None) ≡ accepted y → i ≡ true
         go-table true a q = refl
         go-table false None q = absurd (none-written q)
         go-table false (Is b) q = absurd (none-written q)

@@ -9,7 +9,7 @@ use native.Mathlib.Decide.{ℕ-discrete}
 use lib.Dec.{eqb}
 use borrow.Author.Tests.{ne-eqb}
 use Rattle.refusals.specs.Numbers.Outcome.{accepted}
-use Rattle.refusals.specs.LastArm.{Others, known}
+use Rattle.logic.specs.LastArm.{Others, known}
 use Rattle.codes.specs.Tables.{Entry, none, lookup, ties}
 
 pub missed : {A : Type 0} (T : Type 0) (es : List (Entry A)) (k : ℕ) → Others (λ (e : Entry A). e .digits) T es k → lookup es k ≡ none

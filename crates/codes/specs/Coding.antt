@@ -7,7 +7,7 @@
 -- noteCode       a note's code
 -- codeOf         a meaning's code, in source 004's order
 use Prim.Native.Nat.{ℕ, _+_, _*_}
-use mathlib.Core.Bool.{Bool, true, false}
+use mathlib.Core.Bool.{Bool, true, false, cond}
 use lib.IntN.{ℤ}
 use Rattle.meaning.specs.declared.Duration.{Duration}
 use Rattle.meaning.specs.declared.Duration.the-variants.{Whole, Half, Quarter, Eighth, Sixteenth, ThirtySecond, SixtyFourth, UtilityDuration, UtilityVoice, AbsolutePitch}
@@ -26,13 +26,12 @@ use Rattle.meaning.specs.declared.Meaning.{Meaning}
 use Rattle.meaning.specs.declared.Meaning.the-variants as M
 use Rattle.signed.specs.declared.Parts.{Parts}
 use Rattle.signed.specs.Signs.{partsOf}
-use Rattle.refusals.specs.Tests.{pick}
 
 abbrev pub count : ℕ → ℕ → ℕ
 count id v = id * 0x100000 + v
 
 abbrev pub signedBy : ℕ → Parts → ℕ
-signedBy id p = pick (p .negative) (id * 0x100000 + 0x10000 + p .size) (id * 0x100000 + p .size)
+signedBy id p = cond (p .negative) (id * 0x100000 + 0x10000 + p .size) (id * 0x100000 + p .size)
 
 abbrev pub signed : ℕ → ℤ → ℕ
 signed id z = signedBy id (partsOf z)

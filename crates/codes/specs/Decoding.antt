@@ -6,6 +6,7 @@
 -- decoded       the meaning of a number
 use Prim.Native.Nat.{ℕ, _/_, _%_}
 use mathlib.Core.List.{List}
+use mathlib.Core.Bool.{cond}
 use lib.Dec.{eqb}
 use Rattle.meaning.specs.declared.Tone.{Tone}
 use Rattle.meaning.specs.declared.Tone.the-variants.{Rest, Sounds}
@@ -13,7 +14,6 @@ use Rattle.meaning.specs.declared.Meaning.{Meaning}
 use Rattle.meaning.specs.declared.Meaning.the-variants.{Note}
 use Rattle.refusals.specs.Numbers.{Outcome}
 use Rattle.refusals.specs.Numbers.Outcome.{accepted, refused}
-use Rattle.refusals.specs.Tests.{pick}
 use Rattle.codes.specs.Tables.{Entry, none, lookup, durations, shapes, ties, letters, accidentals, plain, negative}
 
 abbrev pub after : {A B : Type 0} → Outcome A → (A → Outcome B) → Outcome B
@@ -22,7 +22,7 @@ after (refused number place) f = refused number place
 
 abbrev pub toneAt : ℕ → Outcome Tone
 toneAt k =
-    pick (eqb k 0) (accepted Rest)
+    cond (eqb k 0) (accepted Rest)
     (after (lookup letters (k / 0x100)) (λ l. after (lookup accidentals (k / 0x10 % 0x10)) (λ a. accepted (Sounds (record { letter = l; accidental = a; octave = k % 0x10 })))))
 
 abbrev pub noteAt : ℕ → Outcome Meaning
@@ -34,6 +34,6 @@ commandAt table id v = after (lookup table id) (λ m. m v)
 
 unfoldable pub decoded : ℕ → Outcome Meaning
 decoded n =
-    pick (eqb (n / 0x10000000) 1) (noteAt n)
-    (pick (eqb (n / 0x10000 % 0x10) 0) (commandAt plain (n / 0x100000) (n % 0x10000))
-    (pick (eqb (n / 0x10000 % 0x10) 1) (pick (eqb (n % 0x10000) 0) none (commandAt negative (n / 0x100000) (n % 0x10000))) none))
+    cond (eqb (n / 0x10000000) 1) (noteAt n)
+    (cond (eqb (n / 0x10000 % 0x10) 0) (commandAt plain (n / 0x100000) (n % 0x10000))
+    (cond (eqb (n / 0x10000 % 0x10) 1) (cond (eqb (n % 0x10000) 0) none (commandAt negative (n / 0x100000) (n % 0x10000))) none))

@@ -7,7 +7,7 @@
 -- plain           the commands by number, of a value with sign digit 0
 -- negative        those that a value below 0 can have, with sign digit 1
 use Prim.Native.Nat.{ℕ}
-use mathlib.Core.Bool.{Bool, true, false}
+use mathlib.Core.Bool.{Bool, true, false, cond}
 use mathlib.Core.List.{List, [], _∷_}
 use lib.Dec.{eqb, leb}
 use lib.IntN.{ℤ, subℕ}
@@ -25,7 +25,6 @@ use Rattle.meaning.specs.declared.Meaning.{Meaning}
 use Rattle.meaning.specs.declared.Meaning.the-variants.{Dcy, Rup, Cal, Bmp, Flt, Rng, Snc, Fx, Def, Atk, Sus, Lfo, Pv, Rdn, Wav, Fm, Rls, Res, ThreeOff, Vol, Tal, End, Hlt, Src, Dst, Pw, Tem, Utl, Pnt, Hed, Flg, Ps, Fs, Sca, Vdp, Vrt, Aut, Tps, Aux, Pvd, Pvr, Max, Utv, Fc, Rtp, Hld, Ms, Jif, Dtn, Por}
 use Rattle.refusals.specs.Numbers.{Outcome, numberOf, noPair}
 use Rattle.refusals.specs.Numbers.Outcome.{accepted, refused}
-use Rattle.refusals.specs.Tests.{pick}
 
 abbrev pub none : {A : Type 0} → Outcome A
 none = refused (numberOf noPair) 0
@@ -39,7 +38,7 @@ entry k a = record { digits = k; value = a }
 
 abbrev pub lookup : {A : Type 0} → List (Entry A) → ℕ → Outcome A
 lookup [] k = none
-lookup (e ∷ es) k = pick (eqb k (e .digits)) (accepted (e .value)) (lookup es k)
+lookup (e ∷ es) k = cond (eqb k (e .digits)) (accepted (e .value)) (lookup es k)
 
 abbrev pub durations : List (Entry Duration)
 durations =
@@ -61,16 +60,16 @@ abbrev pub counted : (ℕ → Meaning) → ℕ → Outcome Meaning
 counted m v = accepted (m v)
 
 abbrev pub switched : (Bool → Meaning) → ℕ → Outcome Meaning
-switched m v = pick (leb v 1) (accepted (m (eqb v 1))) none
+switched m v = cond (leb v 1) (accepted (m (eqb v 1))) none
 
 abbrev pub bumpAt : ℕ → Bump
-bumpAt v = pick (eqb v 0) Up Down
+bumpAt v = cond (eqb v 0) Up Down
 
 abbrev pub bumped : (Bump → Meaning) → ℕ → Outcome Meaning
-bumped m v = pick (leb v 1) (accepted (m (bumpAt v))) none
+bumped m v = cond (leb v 1) (accepted (m (bumpAt v))) none
 
 abbrev pub bare : Meaning → ℕ → Outcome Meaning
-bare m v = pick (eqb v 0) (accepted m) none
+bare m v = cond (eqb v 0) (accepted m) none
 
 abbrev pub above : (ℤ → Meaning) → ℕ → Outcome Meaning
 above m v = accepted (m (subℕ v 0))

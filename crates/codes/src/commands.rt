@@ -1,9 +1,9 @@
 // The code of a command, 2CCSVVVV or 3CCSVVVV, and back.
 ghost use mathlib.Core.Path.{_≡_};
 ghost use Prim.Native.Nat.{_<_};
+ghost use mathlib.Core.Bool.{cond};
 ghost use lib.Dec.{leb};
 ghost use Rattle.refusals.specs.Numbers.Outcome.{accepted};
-ghost use Rattle.refusals.specs.Tests.{pick};
 ghost use Rattle.meaning.specs.Answers.{toldMeaning};
 ghost use Rattle.codes.specs.Coding.{count, signedBy, signed, switch, bump};
 ghost use Rattle.codes.specs.Tables.{none, bumpAt, bare, plain, negative};
@@ -76,7 +76,7 @@ fn bump_at(v: u16) -> Bump
 
 // A command whose value is 0 or 1.
 fn up_to_1(v: u16, meaning: Meaning) -> Reading
-    ensures { λ r. ⌜ toldMeaning r ≡ pick (leb v 1) (accepted meaning) none ⌝ }
+    ensures { λ r. ⌜ toldMeaning r ≡ cond (leb v 1) (accepted meaning) none ⌝ }
 {
     if v <= 1 {
         Reading::Means(meaning)

@@ -7,7 +7,7 @@ use mathlib.Core.Bool.{Bool, not, _&&_, _||_}
 use lib.Dec.{leb, ltb}
 use lib.IntN.{pos, negsuc, subℕ}
 use lib.Signed.{leZ}
-use Rattle.meaning.specs.Every.{every-at, same, same-equal, sameℤ, sameℤ-equal}
+use Rattle.logic.specs.Every.{every-at, same, same-equal, sameℤ, sameℤ-equal}
 use Rattle.command.specs.Signs.{signedByte, rtpValue}
 
 abbrev scaRight : ℕ → Bool

@@ -4,7 +4,7 @@
 -- isSingle, single-missed     the rows of one byte each: which those are, and that no other fits
 use Prim.Native.Nat.{ℕ, _+_, _*_, _/_, _%_, _<_}
 use mathlib.Core.Path.{_≡_, refl, _∙_}
-use mathlib.Core.Bool.{Bool, true, false, _&&_, _||_}
+use mathlib.Core.Bool.{Bool, true, false, _&&_, _||_, cond}
 use mathlib.Core.List.{List, [], _∷_}
 use native.Mathlib.Omega.{arith}
 use native.Mathlib.Decide.{ℕ-discrete}
@@ -12,10 +12,9 @@ use borrow.Author.Tests.{eq-eqb, ne-eqb}
 use lib.Dec.{T, eqb, eqb→eq}
 use Rattle.meaning.specs.declared.Meaning.{Meaning}
 use Rattle.meaning.specs.declared.Meaning.the-variants.{Pw, Ms, Dtn, Por}
-use Rattle.meaning.specs.Every.{every, every-at, all-left, all-right, same, same-equal}
+use Rattle.logic.specs.Every.{every, every-at, all-left, all-right, same, same-equal}
 use Rattle.refusals.specs.Numbers.{Outcome}
 use Rattle.refusals.specs.Numbers.Outcome.{accepted}
-use Rattle.refusals.specs.Tests.{pick}
 use Rattle.command.specs.Patterns.{Symbol, O, I, n, byte, fits, number}
 use Rattle.command.specs.Signs.{detuningOf, jifOutcome}
 use Rattle.command.specs.Others.{Row, pulse, single, found, unassigned, joinedOutcome}
@@ -31,14 +30,14 @@ as-arithmetic p test value t a h =
       eqb→eq (number p a) (value a) (all-right (same (fits p a) (test a)) (eqb (number p a) (value a)) r),
     )
 
-pub pulse-as : (a b : ℕ) (x : Outcome Meaning) → a < 256 → found pulse a b x ≡ pick (eqb (a % 16) 2) (accepted (Pw (a / 16 * 256 + b))) x
+pub pulse-as : (a b : ℕ) (x : Outcome Meaning) → a < 256 → found pulse a b x ≡ cond (eqb (a % 16) 2) (accepted (Pw (a / 16 * 256 + b))) x
 pulse-as a b x h =
     let pw = as-arithmetic (byte n n n n O O I O) (λ k. eqb (k % 16) 2) (λ k. k / 16) tt a h in
     rw (pw .0, pw .1)
 
 -- DTN's two rows are one, with bit 4 as the sign
 detuned : (a : ℕ) (d : ℕ → Outcome Meaning) (x : Outcome Meaning)
-    → pick (eqb (a % 32) 0x0A) (d 0) (pick (eqb (a % 32) 0x1A) (d 1) x) ≡ pick (eqb (a % 16) 0x0A) (d (a / 16 % 2)) x
+    → cond (eqb (a % 32) 0x0A) (d 0) (cond (eqb (a % 32) 0x1A) (d 1) x) ≡ cond (eqb (a % 16) 0x0A) (d (a / 16 % 2)) x
 detuned a d x =
     elim (ℕ-discrete (a % 32) 0x0A) [
       | yes p ↦
@@ -55,17 +54,17 @@ detuned a d x =
 
 pub joined-as : (a b : ℕ) → a < 256
     → joinedOutcome a b
-    ≡ pick (eqb (a % 64) 0x1E) (accepted (Ms (a / 64 * 256 + b)))
-    (pick (eqb (a % 64) 0x3E) (jifOutcome (a / 64 * 256 + b))
-    (pick (eqb (a % 16) 0x0A) (accepted (Dtn (detuningOf (a / 32 * 256 + b) (a / 16 % 2))))
-    (pick (eqb (a % 4) 3) (accepted (Por (a / 4 * 256 + b))) unassigned)))
+    ≡ cond (eqb (a % 64) 0x1E) (accepted (Ms (a / 64 * 256 + b)))
+    (cond (eqb (a % 64) 0x3E) (jifOutcome (a / 64 * 256 + b))
+    (cond (eqb (a % 16) 0x0A) (accepted (Dtn (detuningOf (a / 32 * 256 + b) (a / 16 % 2))))
+    (cond (eqb (a % 4) 3) (accepted (Por (a / 4 * 256 + b))) unassigned)))
 joined-as a b h =
     let ms = as-arithmetic (byte n n O I I I I O) (λ k. eqb (k % 64) 0x1E) (λ k. k / 64) tt a h in
     let jif = as-arithmetic (byte n n I I I I I O) (λ k. eqb (k % 64) 0x3E) (λ k. k / 64) tt a h in
     let above = as-arithmetic (byte n n n O I O I O) (λ k. eqb (k % 32) 0x0A) (λ k. k / 32) tt a h in
     let below = as-arithmetic (byte n n n I I O I O) (λ k. eqb (k % 32) 0x1A) (λ k. k / 32) tt a h in
     let por = as-arithmetic (byte n n n n n n I I) (λ k. eqb (k % 4) 3) (λ k. k / 4) tt a h in
-    let rest = pick (eqb (a % 4) 3) (accepted (Por (a / 4 * 256 + b))) unassigned in
+    let rest = cond (eqb (a % 4) 3) (accepted (Por (a / 4 * 256 + b))) unassigned in
     rw (por .1, above .1, ms .1, por .0, below .0, above .0, jif .0, ms .0, detuned a (λ bit. accepted (Dtn (detuningOf (a / 32 * 256 + b) bit))) rest)
 
 abbrev pub isOneOf : List ℕ → ℕ → Bool
@@ -84,7 +83,7 @@ none-found [] a b x e = refl
 none-found (r ∷ rs) a b x e = go (fits (r .pattern) a) e (λ q. none-found rs a b x q)
   where
     go : (t : Bool) → t || someFits rs a ≡ false → (someFits rs a ≡ false → found rs a b x ≡ x)
-        → pick t (r .means (number (r .pattern) a * 256 + b)) (found rs a b x) ≡ x
+        → cond t (r .means (number (r .pattern) a * 256 + b)) (found rs a b x) ≡ x
     go true q rest = absurd (let z : _≡_ {A = ℕ} 0 1 = cc in omega arith)
     go false q rest = rest q
 

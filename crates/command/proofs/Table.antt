@@ -8,7 +8,7 @@ use mathlib.Core.List.{List, [], _∷_}
 use lib.Dec.{T, eqb, eqb→eq}
 use lib.ListN.{getD}
 use native.Mathlib.Nat.{zero-add}
-use Rattle.meaning.specs.Every.{each, each-at, all-left, all-right}
+use Rattle.logic.specs.Every.{each, each-at, all-left, all-right}
 use Rattle.command.specs.Codes.{Command, DCY, RUP, CAL, BMP, FLT, RNG, SNC, F-X, DEF, ATK, SUS, LFO, P&V, RDN, WAV, F-M, RLS, RES, 3-0, VOL, TAL, END, HLT, SRC, DST, none, coded, meaningOf, secondOutcome}
 use Rattle.command.specs.Numbering.{numberOf, commandAt}
 

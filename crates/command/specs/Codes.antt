@@ -8,7 +8,7 @@
 -- bumpOf, meaningOf       what a command and its value mean
 -- secondOutcome   the meaning of 01 and a second byte, or 27
 use Prim.Native.Nat.{ℕ, _+_}
-use mathlib.Core.Bool.{Bool, _&&_}
+use mathlib.Core.Bool.{Bool, _&&_, cond}
 use mathlib.Core.List.{List, [], _∷_}
 use lib.Dec.{eqb, leb}
 use Rattle.meaning.specs.declared.Bump.{Bump}
@@ -17,7 +17,6 @@ use Rattle.meaning.specs.declared.Meaning.{Meaning}
 use Rattle.meaning.specs.declared.Meaning.the-variants.{Dcy, Rup, Cal, Bmp, Flt, Rng, Snc, Fx, Def, Atk, Sus, Lfo, Pv, Rdn, Wav, Fm, Rls, Res, ThreeOff, Vol, Tal, End, Hlt, Src, Dst}
 use Rattle.refusals.specs.Numbers.{Outcome, numberOf, unassignedPair}
 use Rattle.refusals.specs.Numbers.Outcome.{accepted, refused}
-use Rattle.refusals.specs.Tests.{pick}
 use Rattle.command.specs.Patterns.{Symbol, O, I, n, byte, fits, number}
 
 pub data Command : Type 0 where
@@ -94,13 +93,13 @@ holds r b = fits (r .pattern) b && leb (r .least) (number (r .pattern) b) && leb
 abbrev pub codedBy : List Row → ℕ → Coded
 codedBy [] b = record { command = none; value = 0 }
 codedBy (r ∷ rs) b =
-    pick (holds r b) (record { command = r .command; value = r .added + number (r .pattern) b }) (codedBy rs b)
+    cond (holds r b) (record { command = r .command; value = r .added + number (r .pattern) b }) (codedBy rs b)
 
 abbrev pub coded : ℕ → Coded
 coded b = codedBy rows b
 
 abbrev pub bumpOf : ℕ → Bump
-bumpOf v = pick (eqb v 0) Up Down
+bumpOf v = cond (eqb v 0) Up Down
 
 abbrev pub meaningOf : Command → ℕ → Outcome Meaning
 meaningOf DCY v = accepted (Dcy v)

@@ -2,8 +2,8 @@
 -- numberOf    a command's number
 -- commandAt   a number's command
 use Prim.Native.Nat.{ℕ}
+use mathlib.Core.Bool.{cond}
 use lib.Dec.{eqb}
-use Rattle.refusals.specs.Tests.{pick}
 use Rattle.command.specs.Codes.{Command, DCY, RUP, CAL, BMP, FLT, RNG, SNC, F-X, DEF, ATK, SUS, LFO, P&V, RDN, WAV, F-M, RLS, RES, 3-0, VOL, TAL, END, HLT, SRC, DST, none}
 
 abbrev pub numberOf : Command → ℕ
@@ -36,28 +36,28 @@ numberOf none = 0
 
 abbrev pub commandAt : ℕ → Command
 commandAt k =
-    pick (eqb k 1) DCY
-    (pick (eqb k 2) RUP
-    (pick (eqb k 3) CAL
-    (pick (eqb k 4) BMP
-    (pick (eqb k 5) FLT
-    (pick (eqb k 6) RNG
-    (pick (eqb k 7) SNC
-    (pick (eqb k 8) F-X
-    (pick (eqb k 9) DEF
-    (pick (eqb k 10) ATK
-    (pick (eqb k 11) SUS
-    (pick (eqb k 12) LFO
-    (pick (eqb k 13) P&V
-    (pick (eqb k 14) RDN
-    (pick (eqb k 15) WAV
-    (pick (eqb k 16) F-M
-    (pick (eqb k 17) RLS
-    (pick (eqb k 18) RES
-    (pick (eqb k 19) 3-0
-    (pick (eqb k 20) VOL
-    (pick (eqb k 21) TAL
-    (pick (eqb k 22) END
-    (pick (eqb k 23) HLT
-    (pick (eqb k 24) SRC
-    (pick (eqb k 25) DST none))))))))))))))))))))))))
+    cond (eqb k 1) DCY
+    (cond (eqb k 2) RUP
+    (cond (eqb k 3) CAL
+    (cond (eqb k 4) BMP
+    (cond (eqb k 5) FLT
+    (cond (eqb k 6) RNG
+    (cond (eqb k 7) SNC
+    (cond (eqb k 8) F-X
+    (cond (eqb k 9) DEF
+    (cond (eqb k 10) ATK
+    (cond (eqb k 11) SUS
+    (cond (eqb k 12) LFO
+    (cond (eqb k 13) P&V
+    (cond (eqb k 14) RDN
+    (cond (eqb k 15) WAV
+    (cond (eqb k 16) F-M
+    (cond (eqb k 17) RLS
+    (cond (eqb k 18) RES
+    (cond (eqb k 19) 3-0
+    (cond (eqb k 20) VOL
+    (cond (eqb k 21) TAL
+    (cond (eqb k 22) END
+    (cond (eqb k 23) HLT
+    (cond (eqb k 24) SRC
+    (cond (eqb k 25) DST none))))))))))))))))))))))))

@@ -9,20 +9,20 @@
 -- joinedOutcome, otherOutcome   the meaning of a pair by these rows; 'Unassigned: low bits 01 other than 01, and 8E AE CE EE'
 use Prim.Native.Nat.{ℕ, _+_, _*_}
 use mathlib.Core.List.{List, [], _∷_}
+use mathlib.Core.Bool.{cond}
 use lib.Dec.{eqb, leb}
 use Rattle.meaning.specs.declared.Meaning.{Meaning}
 use Rattle.meaning.specs.declared.Meaning.the-variants.{Pw, Tem, Utl, Pnt, Hed, Flg, Ps, Fs, Vdp, Vrt, Aut, Aux, Pvd, Pvr, Max, Utv, Fc, Hld, Ms, Dtn, Por}
 use Rattle.refusals.specs.Numbers.{Outcome, numberOf, unassignedPair}
 use Rattle.refusals.specs.Numbers.Outcome.{accepted, refused}
-use Rattle.refusals.specs.Tests.{pick}
 use Rattle.command.specs.Patterns.{Symbol, O, I, n, byte, fits, number}
 use Rattle.command.specs.Signs.{outOfRange, signedByte, detuningOf, scaOutcome, tpsOutcome, rtpOutcome, jifOutcome}
 
 abbrev pub upTo127 : ℕ → Meaning → Outcome Meaning
-upTo127 v m = pick (leb v 127) (accepted m) outOfRange
+upTo127 v m = cond (leb v 127) (accepted m) outOfRange
 
 abbrev pub tempoOf : ℕ → ℕ
-tempoOf v = pick (eqb v 0) 256 v
+tempoOf v = cond (eqb v 0) 256 v
 
 pub record Row : Type 0 where
   pub pattern : List Symbol
@@ -69,7 +69,7 @@ joined =
 
 abbrev pub found : List Row → ℕ → ℕ → Outcome Meaning → Outcome Meaning
 found [] a b else = else
-found (r ∷ rs) a b else = pick (fits (r .pattern) a) (r .means (number (r .pattern) a * 256 + b)) (found rs a b else)
+found (r ∷ rs) a b else = cond (fits (r .pattern) a) (r .means (number (r .pattern) a * 256 + b)) (found rs a b else)
 
 abbrev pub unassigned : Outcome Meaning
 unassigned = refused (numberOf unassignedPair) 0

@@ -4,16 +4,15 @@
 -- found-holds   of the meaning that is found
 use Prim.Native.Nat.{ℕ, _+_, _*_}
 use mathlib.Core.Path.{_≡_, refl}
-use mathlib.Core.Bool.{Bool, true, false}
+use mathlib.Core.Bool.{Bool, true, false, cond}
 use mathlib.Core.List.{List, [], _∷_}
 use Rattle.meaning.specs.declared.Meaning.{Meaning}
 use Rattle.refusals.specs.Numbers.{Outcome}
-use Rattle.refusals.specs.Tests.{pick}
 use Rattle.command.specs.Patterns.{fits, number}
 use Rattle.command.specs.Others.{Row, found}
 
 module _ (P : Outcome Meaning → Type 0) where
-  pub picked : (t : Bool) (x y : Outcome Meaning) → (t ≡ true → P x) → P y → P (pick t x y)
+  pub picked : (t : Bool) (x y : Outcome Meaning) → (t ≡ true → P x) → P y → P (cond t x y)
   picked true x y p q = p refl
   picked false x y p q = q
 

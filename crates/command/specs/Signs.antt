@@ -8,7 +8,7 @@
 --              result leaves -47 to 47'
 -- jifOutcome   'JIF ten bits, raw above 823 less 1,024 (house), raw 758 to 823 out of range'
 use Prim.Native.Nat.{ℕ, _+_, _*_, _-_, _/_, _%_}
-use mathlib.Core.Bool.{_&&_}
+use mathlib.Core.Bool.{_&&_, cond}
 use lib.Dec.{eqb, leb, ltb}
 use lib.IntN.{ℤ, pos, negsuc, subℕ, _+ℤ_, _*ℤ_}
 use lib.Signed.{leZ}
@@ -16,38 +16,37 @@ use Rattle.meaning.specs.declared.Meaning.{Meaning}
 use Rattle.meaning.specs.declared.Meaning.the-variants.{Sca, Tps, Rtp, Jif}
 use Rattle.refusals.specs.Numbers.{Outcome, numberOf, valueRange}
 use Rattle.refusals.specs.Numbers.Outcome.{accepted, refused}
-use Rattle.refusals.specs.Tests.{pick}
 
 abbrev pub outOfRange : Outcome Meaning
 outOfRange = refused (numberOf valueRange) 0
 
 abbrev pub signedByte : ℕ → ℤ
-signedByte b = subℕ b (pick (ltb b 128) 0 256)
+signedByte b = subℕ b (cond (ltb b 128) 0 256)
 
 abbrev pub detuningOf : ℕ → ℕ → ℤ
-detuningOf n bit4 = subℕ n (pick (eqb bit4 1) 2048 0)
+detuningOf n bit4 = subℕ n (cond (eqb bit4 1) 2048 0)
 
 abbrev pub scaOutcome : ℕ → Outcome Meaning
 scaOutcome b =
-    pick (leZ (negsuc 6) (signedByte b) && leZ (signedByte b) (pos 7)) (accepted (Sca (signedByte b))) outOfRange
+    cond (leZ (negsuc 6) (signedByte b) && leZ (signedByte b) (pos 7)) (accepted (Sca (signedByte b))) outOfRange
 
 -- 'hhhh ooos': for + the octaves are 7 minus ooo and hhhh more half-steps, for - ooo octaves and 11 minus hhhh
 abbrev pub tpsValue : ℕ → ℤ
 tpsValue b =
-    pick (eqb (b % 2) 0)
+    cond (eqb (b % 2) 0)
     (subℕ (12 * (7 - b / 2 % 8) + b / 16) 0)
     (subℕ 0 (12 * (b / 2 % 8) + (11 - b / 16)))
 
 abbrev pub tpsOutcome : ℕ → Outcome Meaning
-tpsOutcome b = pick (ltb 11 (b / 16)) outOfRange (accepted (Tps (tpsValue b)))
+tpsOutcome b = cond (ltb 11 (b / 16)) outOfRange (accepted (Tps (tpsValue b)))
 
 abbrev pub rtpValue : ℕ → ℤ
 rtpValue b = pos 12 *ℤ subℕ 3 (b % 8) +ℤ subℕ (b / 8) 11
 
 abbrev pub rtpOutcome : ℕ → Outcome Meaning
 rtpOutcome b =
-    pick (leb (b / 8) 22 && leZ (negsuc 46) (rtpValue b) && leZ (rtpValue b) (pos 47)) (accepted (Rtp (rtpValue b))) outOfRange
+    cond (leb (b / 8) 22 && leZ (negsuc 46) (rtpValue b) && leZ (rtpValue b) (pos 47)) (accepted (Rtp (rtpValue b))) outOfRange
 
 abbrev pub jifOutcome : ℕ → Outcome Meaning
 jifOutcome raw =
-    pick (leb raw 757) (accepted (Jif (subℕ raw 0))) (pick (leb raw 823) outOfRange (accepted (Jif (subℕ raw 1024))))
+    cond (leb raw 757) (accepted (Jif (subℕ raw 0))) (cond (leb raw 823) outOfRange (accepted (Jif (subℕ raw 1024))))

@@ -1,7 +1,6 @@
 -- A container is right exactly when none of 21 to 26 applies to its file. Laws of a file whose container is right.
 -- none-layout, layout-none         'exactly when'
 -- layout-of                        the layout that is given out
--- partOf                           the part of a file that a span names; of it what lies in the file
 -- line-part, lines-part            the span of a line names the line, so in a layout
 -- VoiceFits, voice1-fits, ..       a voice has an even number of bytes, not 0, and lies in the file
 -- short-file                       at most 65,536 bytes
@@ -15,10 +14,12 @@ use native.Mathlib.Omega.{arith}
 use lib.ListN.{length, take, drop, drop-of-length-le}
 use lib.Dec.{ltb, eqb}
 use borrow.Author.Tests.{ltb-false, eqb-false, not-false}
+use Rattle.logic.specs.Truth.{neither}
 use Rattle.refusals.specs.Numbers.Outcome.{accepted}
 use Rattle.refusals.specs.Tests.{None, firstOf}
-use Rattle.refusals.specs.Laws.{passed-none, none-passed, guarded-accepted, neither}
-use Rattle.container.specs.declared.Span.{Span}
+use Rattle.refusals.specs.Laws.{passed-none, none-passed, guarded-accepted}
+use Rattle.fields.specs.declared.Span.{Span}
+use Rattle.fields.specs.Parts.{partOf}
 use Rattle.container.specs.declared.Layout.{Layout}
 use Rattle.container.specs.Head.{headOf, badLength, voicesEnd}
 use Rattle.container.specs.Text.{lineStart, line, textFits, textEnd, spanOf, textOf}
@@ -37,9 +38,6 @@ layout-none f l e = passed-none (containerTests f) (guarded-accepted (firstOf (c
 pub layout-of : (f : List ℕ) (l : Layout) → containerOutcome f ≡ accepted l → layoutOf f ≡ l
 unfolding containerOutcome
 layout-of f l e = guarded-accepted (firstOf (containerTests f)) l (layoutOf f) e .1
-
-abbrev pub partOf : List ℕ → Span → List ℕ
-partOf f s = take (s .len) (drop (s .from) f)
 
 pub line-part : (f : List ℕ) (at i : ℕ) → partOf f (spanOf f (lineStart f at i)) ≡ line f at i
 line-part f at i = take-line (drop (lineStart f at i) f)

@@ -12,13 +12,13 @@
 -- spanOf, lineOf, textOf   where a line lies, and what is told of a line and of the text
 -- textTests   25 and 26, in the paper's order
 use Prim.Native.Nat.{ℕ, zero, suc, _+_}
-use mathlib.Core.Bool.{Bool, not, _&&_, _||_}
+use mathlib.Core.Bool.{Bool, not, _&&_, _||_, cond}
 use mathlib.Core.List.{List, [], _∷_}
 use lib.ListN.{length, drop, getD}
 use lib.Dec.{ltb, leb, eqb}
 use Rattle.refusals.specs.Numbers.Reason.{textLines, bytesAfterText}
-use Rattle.refusals.specs.Tests.{Test, test, pick}
-use Rattle.container.specs.declared.Span.{Span}
+use Rattle.refusals.specs.Tests.{Test, test}
+use Rattle.fields.specs.declared.Span.{Span}
 use Rattle.container.specs.declared.text.Line.{Line}
 use Rattle.container.specs.declared.text.Text.{Text}
 
@@ -27,7 +27,7 @@ closes b = eqb b 0x0D || eqb b 0
 
 unfoldable pub lineBytes : List ℕ → List ℕ
 lineBytes [] = []
-lineBytes (b ∷ bs) = pick (closes b) [] (b ∷ lineBytes bs)
+lineBytes (b ∷ bs) = cond (closes b) [] (b ∷ lineBytes bs)
 
 abbrev pub lineAt : List ℕ → ℕ → List ℕ
 lineAt f from = lineBytes (drop from f)

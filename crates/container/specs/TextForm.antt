@@ -9,7 +9,7 @@
 -- text-join         what has that form fits, and ends with the $00
 use Prim.Native.Nat.{ℕ, suc, _+_, _<_}
 use mathlib.Core.Path.{_≡_, refl, sym, ap, _∙_}
-use mathlib.Core.Bool.{Bool, true, false, not, _&&_}
+use mathlib.Core.Bool.{Bool, true, false, not, _&&_, cond}
 use mathlib.Core.List.{List, [], _∷_, _++_}
 use native.Mathlib.Omega.{arith}
 use native.Mathlib.Numerals.{add-one}
@@ -17,8 +17,7 @@ use lib.ListN.{length, drop, getD, take-append-drop, length-drop, List·getD-eq-
 use lib.Seq.{drop-cons, drop-drop, drop-append-seam}
 use lib.Dec.{ltb, leb, eqb}
 use borrow.Author.Tests.{not-true, ltb-true, ltb-false, eqb-true, lt-ltb}
-use Rattle.refusals.specs.Tests.{pick}
-use Rattle.refusals.specs.Laws.{both}
+use Rattle.logic.specs.Truth.{both}
 use Rattle.container.specs.Text.{closes, lineBytes, lineAt, lineFits, nextLine, lineStart, line, zeroAt, textFits, textEnd}
 use Rattle.container.specs.TextLaws.{take-line}
 
@@ -43,7 +42,7 @@ unfolding lineBytes
 line-plain [] = refl
 line-plain (b ∷ bs) = go (closes b) refl (line-plain bs)
   where
-    go : (z : Bool) → closes b ≡ z → plain (lineBytes bs) ≡ true → plain (pick z [] (b ∷ lineBytes bs)) ≡ true
+    go : (z : Bool) → closes b ≡ z → plain (lineBytes bs) ≡ true → plain (cond z [] (b ∷ lineBytes bs)) ≡ true
     go true p e = refl
     go false p e = rw (p, e)
 
@@ -52,7 +51,7 @@ unfolding lineBytes
 plain-line [] rest e = refl
 plain-line (b ∷ bs) rest e = go (closes b) refl (plain-line bs rest)
   where
-    go : (z : Bool) → closes b ≡ z → (plain bs ≡ true → lineBytes (closedLine bs rest) ≡ bs) → pick z [] (b ∷ lineBytes (closedLine bs rest)) ≡ b ∷ bs
+    go : (z : Bool) → closes b ≡ z → (plain bs ≡ true → lineBytes (closedLine bs rest) ≡ bs) → cond z [] (b ∷ lineBytes (closedLine bs rest)) ≡ b ∷ bs
     go true p h =
         let q = not-true (closes b) (both (not (closes b)) (plain bs) e .0) in
         let z : _≡_ {A = ℕ} 0 1 = cc in

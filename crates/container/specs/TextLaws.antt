@@ -4,11 +4,10 @@
 -- line-within   a line ends within any bound of its start and the file
 use Prim.Native.Nat.{ℕ, _+_, _-_, _≤_}
 use mathlib.Core.Path.{_≡_, refl, ap}
-use mathlib.Core.Bool.{Bool, true, false}
+use mathlib.Core.Bool.{Bool, true, false, cond}
 use mathlib.Core.List.{List, [], _∷_}
 use native.Mathlib.Omega.{arith}
 use lib.ListN.{length, take, drop, length-drop}
-use Rattle.refusals.specs.Tests.{pick}
 use Rattle.container.specs.Text.{closes, lineBytes, lineAt}
 
 pub take-line : (s : List ℕ) → take (length (lineBytes s)) s ≡ lineBytes s
@@ -16,7 +15,7 @@ unfolding lineBytes
 take-line [] = refl
 take-line (b ∷ bs) = go (closes b) (take-line bs)
   where
-    go : (z : Bool) → take (length (lineBytes bs)) bs ≡ lineBytes bs → take (length (pick z [] (b ∷ lineBytes bs))) (b ∷ bs) ≡ pick z [] (b ∷ lineBytes bs)
+    go : (z : Bool) → take (length (lineBytes bs)) bs ≡ lineBytes bs → take (length (cond z [] (b ∷ lineBytes bs))) (b ∷ bs) ≡ cond z [] (b ∷ lineBytes bs)
     go true e = refl
     go false e = ap (λ (l : List ℕ). b ∷ l) e
 
@@ -25,7 +24,7 @@ unfolding lineBytes
 length-line [] = omega arith
 length-line (b ∷ bs) = go (closes b) (length-line bs)
   where
-    go : (z : Bool) → length (lineBytes bs) ≤ length bs → length (pick z [] (b ∷ lineBytes bs)) ≤ length (b ∷ bs)
+    go : (z : Bool) → length (lineBytes bs) ≤ length bs → length (cond z [] (b ∷ lineBytes bs)) ≤ length (b ∷ bs)
     go true e = omega arith
     go false e = omega arith
 

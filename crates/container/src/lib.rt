@@ -2,6 +2,7 @@
 // part of the lent bytes. What the voices hold is not looked at here.
 ghost use mathlib.Core.Path.{_≡_};
 ghost use Rattle.container.specs.Layout.{placed, toldLayout, containerOutcome};
+use fields::Span;
 use head::Head;
 use refusals::Refusal;
 use refusals::Verdict;
@@ -9,12 +10,6 @@ use text::Text;
 
 mod head;
 mod text;
-
-// A part of the file: its first byte and how many.
-pub struct Span {
-    pub from: usize,
-    pub len: usize,
-}
 
 // Where everything lies in a file whose container is right.
 pub struct Layout {

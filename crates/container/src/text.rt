@@ -4,7 +4,7 @@ ghost use Prim.Native.Nat.{_+_, _^_, _<_};
 ghost use lib.ListN.{length};
 ghost use Rattle.refusals.specs.Tests.{firstOf};
 ghost use Rattle.container.specs.Text.{lineAt, lineOf, textOf, textTests};
-use crate::Span;
+use fields::Span;
 use refusals::Verdict;
 
 // A line: where it lies, whether it is right, and where the next begins.

@@ -4,12 +4,11 @@
 -- none-held, blank-cells   the cells at a voice's start
 use Prim.Native.Nat.{ℕ, _<_}
 use mathlib.Core.Path.{_≡_, refl, sym, ap, _∙_, subst, fun-ext}
-use mathlib.Core.Bool.{Bool, true, false}
+use mathlib.Core.Bool.{Bool, true, false, cond}
 use mathlib.Core.List.{List}
 use native.Mathlib.Omega.{arith}
 use lib.Dec.{eqb}
 use lib.ListN.{getD, set, length-set}
-use Rattle.refusals.specs.Tests.{pick}
 use Rattle.bodies.specs.Playing.{learn}
 use Rattle.bodies.proofs.Cells.{set-at, blank, blank-at}
 use Rattle.counts.specs.declared.count.Counts.{Counts}
@@ -26,14 +25,14 @@ module _ (cells : List ℕ) (k : ℕ) (c : Counts) (x : ℕ) (s : Cells cells) (
   learnt : (j : ℕ) → heldIn (set cells k x) j ≡ learn k c (heldIn cells) j
   learnt j = ap decoded (set-at cells k j x (omega (arith, s .few))) ∙ go (eqb k j)
     where
-      go : (t : Bool) → decoded (pick t x (getD cells j 0)) ≡ pick t c (heldIn cells j)
+      go : (t : Bool) → decoded (cond t x (getD cells j 0)) ≡ cond t c (heldIn cells j)
       go true = ap decoded e ∙ decoded-coded c g
       go false = refl
 
   still-small : (j : ℕ) → Small (learn k c (heldIn cells) j)
   still-small j = go (eqb k j)
     where
-      go : (t : Bool) → Small (pick t c (heldIn cells j))
+      go : (t : Bool) → Small (cond t c (heldIn cells j))
       go true = g
       go false = s .small j
 

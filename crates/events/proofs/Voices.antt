@@ -3,16 +3,16 @@
 -- in-song    so for voices 1, 2, 3
 use Prim.Native.Nat.{ℕ, zero, suc, _≤_}
 use mathlib.Core.Path.{_≡_, refl, ap, subst}
-use mathlib.Core.Bool.{Bool, true, false}
+use mathlib.Core.Bool.{Bool, true, false, cond}
 use mathlib.Core.List.{List, [], _∷_}
 use native.Mathlib.Omega.{arith}
 use lib.Dec.{eqb}
 use lib.ListN.{length, take, drop}
+use Rattle.fields.specs.Parts.{partOf}
 use Rattle.refusals.specs.Numbers.Outcome.{accepted}
-use Rattle.refusals.specs.Tests.{pick}
-use Rattle.container.specs.declared.Span.{Span}
+use Rattle.fields.specs.declared.Span.{Span}
 use Rattle.container.specs.Layout.{layoutOf}
-use Rattle.container.specs.Laws.{partOf, short-file, voice1-fits, voice2-fits, voice3-fits}
+use Rattle.container.specs.Laws.{short-file, voice1-fits, voice2-fits, voice3-fits}
 use Rattle.bodies.specs.Voice.{pairs}
 use Rattle.mus.specs.declared.Voice.{Voice}
 use Rattle.mus.specs.declared.Song.{Song}
@@ -45,7 +45,7 @@ in-song f s voice e =
     (span-in f (layoutOf f .voice2) (c .0 .voice2) short (omega (arith, voice2-fits f k .2)))
     (span-in f (layoutOf f .voice3) (c .0 .voice3) short (omega (arith, voice3-fits f k .2))))
   where
-    go : (a b : Bool) {v1 v2 v3 : Voice} → InSong f v1 → InSong f v2 → InSong f v3 → InSong f (pick a v1 (pick b v2 v3))
+    go : (a b : Bool) {v1 v2 v3 : Voice} → InSong f v1 → InSong f v2 → InSong f v3 → InSong f (cond a v1 (cond b v2 v3))
     go true b x y z = x
     go false true x y z = y
     go false false x y z = z

@@ -12,13 +12,13 @@
 -- listing        what it leaves for a file
 -- told           what an answer says
 use Prim.Native.Nat.{ℕ, _-_, min}
-use mathlib.Core.Bool.{not, _||_}
+use mathlib.Core.Bool.{not, _||_, cond}
 use mathlib.Core.List.{List, [], _∷_}
 use lib.Dec.{eqb, ltb}
 use lib.ListN.{length, take, drop}
 use Rattle.refusals.specs.Numbers.{Outcome, voiceNumber, listLengths}
 use Rattle.refusals.specs.Numbers.Outcome.{accepted, refused}
-use Rattle.refusals.specs.Tests.{Test, test, pick, firstOf, guarded}
+use Rattle.refusals.specs.Tests.{Test, test, firstOf, guarded}
 use Rattle.bodies.specs.Bodies.{Event}
 use Rattle.bodies.specs.Voice.{pairs}
 use Rattle.bodies.specs.Playing.{played}
@@ -34,7 +34,7 @@ abbrev pub callerTests : ℕ → ℕ → ℕ → List Test
 callerTests voice n m = test voiceNumber (ltb voice 1 || ltb 3 voice) ∷ test listLengths (not (eqb n m)) ∷ []
 
 abbrev pub voiceOf : Song → ℕ → Voice
-voiceOf s n = pick (eqb n 1) (s .voice1) (pick (eqb n 2) (s .voice2) (s .voice3))
+voiceOf s n = cond (eqb n 1) (s .voice1) (cond (eqb n 2) (s .voice2) (s .voice3))
 
 abbrev pub bytesOf : List ℕ → Voice → List ℕ
 bytesOf f v = take (v .length) (drop (v .offset) f)

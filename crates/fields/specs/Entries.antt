@@ -13,7 +13,7 @@ use lib.ListN.{drop, getD}
 use lib.Dec.{eqb, eqb·suc-zero}
 use borrow.Author.Tests.{eq-eqb}
 use Rattle.fields.specs.Parts.{before}
-use Rattle.fields.specs.Truth.{neither}
+use Rattle.logic.specs.Truth.{neither}
 
 unfoldable pub startOf : List ℕ → ℕ → ℕ → ℕ
 startOf [] mark n = 0

@@ -1,5 +1,4 @@
 pub mod Numbers
 pub mod Parts
 pub mod Laws
-pub mod Truth
 pub mod Entries

@@ -1,4 +1,5 @@
 -- Document 01, 'PSID and RSID', last paragraph: a text cut at a zero, and a payload put into memory.
+-- partOf       the part of lent bytes that a span names; of it what lies in them
 -- before, beforeZero   'cut before the first zero among them', and so before any mark, byte by byte with unlessMark
 -- front        numbers in the first cells of a list, as many as fit, and the cells behind them as they stood
 -- put          the bytes p in the place of those from a on, 'every cell but the payload's as it stood'
@@ -7,6 +8,10 @@ use mathlib.Core.Bool.{Bool, true, false}
 use mathlib.Core.List.{List, [], _∷_, _++_}
 use lib.ListN.{length, take, drop}
 use lib.Dec.{eqb}
+use Rattle.fields.specs.declared.Span.{Span}
+
+abbrev pub partOf : List ℕ → Span → List ℕ
+partOf f s = take (s .len) (drop (s .from) f)
 
 abbrev pub unlessMark : Bool → ℕ → List ℕ → List ℕ
 unlessMark true b later = []

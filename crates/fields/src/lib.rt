@@ -4,8 +4,14 @@ ghost use mathlib.Core.Path.{_≡_};
 ghost use Prim.Native.Nat.{_+_, _*_, _≤_};
 ghost use lib.ListN.{length, getD, take, drop};
 ghost use Rattle.fields.specs.Numbers.{be16, be32, le16};
-ghost use Rattle.fields.specs.Parts.{before, put};
+ghost use Rattle.fields.specs.Parts.{partOf, before, put};
 ghost use Rattle.fields.specs.Entries.{startOf, entryAt};
+
+// A part of lent bytes: its first byte and how many.
+pub struct Span {
+    pub from: usize,
+    pub len: usize,
+}
 
 // internal: the byte at k, 0 past the end.
 pub fn byte_at(s: &[u8], k: usize) -> u8
@@ -68,6 +74,15 @@ pub fn part(s: &[u8], from: usize, len: usize) -> &[u8]
     } else {
         &s[from..]
     }
+}
+
+// internal: the bytes that a span names; of them those that lie in the slice.
+pub fn span_part(s: &[u8], span: Span) -> &[u8]
+    ensures { λ r. ⌜ now r ≡ partOf (now (s .entry)) span ⌝ }
+{
+    let from = span.from;
+    let len = span.len;
+    part(s, from, len)
 }
 
 // internal: how many bytes stand before the first mark; all of them where there is none.

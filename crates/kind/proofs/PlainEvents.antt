@@ -3,14 +3,13 @@
 -- plain-event         so for every two bytes
 use Prim.Native.Nat.{ℕ, _%_, _<_}
 use mathlib.Core.Path.{_≡_, refl, sym, _∙_}
-use mathlib.Core.Bool.{Bool, true, false, not, _&&_, _||_}
+use mathlib.Core.Bool.{Bool, true, false, not, _&&_, _||_, cond}
 use mathlib.Core.List.{List, [], _∷_}
 use lib.Dec.{eqb, ltb}
 use borrow.Author.Tests.{eqb-true, ne-eqb, ltb-true, not-true}
-use Rattle.refusals.specs.LastArm.{Others, known}
-use Rattle.refusals.specs.Tests.{pick}
-use Rattle.refusals.specs.Laws.{both}
-use Rattle.meaning.specs.Every.{every-at, implied}
+use Rattle.logic.specs.Truth.{both}
+use Rattle.logic.specs.LastArm.{Others, known}
+use Rattle.logic.specs.Every.{every-at, implied}
 use Rattle.command.specs.Codes.{secondOutcome}
 use Rattle.command.specs.Others.{otherOutcome}
 use Rattle.pair.specs.Pairs.{meaningOf}
@@ -35,21 +34,21 @@ module _ (a b : ℕ) (ha : a < 256) (hb : b < 256) where
   first-event : plainFirst a ≡ true → kindOf (otherOutcome a b) ≡ Event
   first-event e = go (eqb (a % 4) 2) refl e
     where
-      go : (t : Bool) → eqb (a % 4) 2 ≡ t → pick t (not (among apart a)) (eqb (a % 4) 3) ≡ true → kindOf (otherOutcome a b) ≡ Event
+      go : (t : Bool) → eqb (a % 4) 2 ≡ t → cond t (not (among apart a)) (eqb (a % 4) 3) ≡ true → kindOf (otherOutcome a b) ≡ Event
       go true p q = rest-event a b ha hb (eqb-true (a % 4) 2 p) (not-true (among apart a) q)
       go false p q = por-event a b ha (eqb-true (a % 4) 3 q)
 
-  bytes-event : pick (eqb (a % 4) 0) true (pick (eqb a 1) (plainSecond (b % 16)) (plainFirst a)) ≡ true → kindOf (meaningOf a b) ≡ Event
+  bytes-event : cond (eqb (a % 4) 0) true (cond (eqb a 1) (plainSecond (b % 16)) (plainFirst a)) ≡ true → kindOf (meaningOf a b) ≡ Event
   bytes-event e = go (eqb (a % 4) 0) refl (eqb a 1) refl e
     where
-      go : (n : Bool) → eqb (a % 4) 0 ≡ n → (o : Bool) → eqb a 1 ≡ o → pick n true (pick o (plainSecond (b % 16)) (plainFirst a)) ≡ true → kindOf (meaningOf a b) ≡ Event
+      go : (n : Bool) → eqb (a % 4) 0 ≡ n → (o : Bool) → eqb a 1 ≡ o → cond n true (cond o (plainSecond (b % 16)) (plainFirst a)) ≡ true → kindOf (meaningOf a b) ≡ Event
       go true p o q r = rw p
       go false p true q r = rw (p, q) (second-event b hb r)
       go false p false q r = rw (p, q) (first-event r)
 
 pub plain-event : (a b : ℕ) → isPlain a b ≡ true → kindOf (meaningOf a b) ≡ Event
 plain-event a b e =
-    let tests = pick (eqb (a % 4) 0) true (pick (eqb a 1) (plainSecond (b % 16)) (plainFirst a)) in
+    let tests = cond (eqb (a % 4) 0) true (cond (eqb a 1) (plainSecond (b % 16)) (plainFirst a)) in
     let two = both (ltb a 256 && ltb b 256) tests e in
     let bytes = both (ltb a 256) (ltb b 256) (two .0) in
     bytes-event a b (ltb-true a 256 (bytes .0)) (ltb-true b 256 (bytes .1)) (two .1)

@@ -5,17 +5,16 @@
 -- rest-event           low bits 10: every first byte but those that are apart is an event's
 use Prim.Native.Nat.{ℕ, _+_, _*_, _/_, _%_, _<_}
 use mathlib.Core.Path.{_≡_, refl, sym, _∙_}
-use mathlib.Core.Bool.{Bool, true, false, not, _||_}
+use mathlib.Core.Bool.{Bool, true, false, not, _||_, cond}
 use mathlib.Core.List.{List, [], _∷_}
 use native.Mathlib.Omega.{arith}
 use native.Mathlib.Decide.{ℕ-discrete}
 use lib.Dec.{T, eqb}
 use lib.IntN.{ℤ}
 use borrow.Author.Tests.{eqb-true, ne-eqb, not-true}
-use Rattle.meaning.specs.Every.{every, every-at, true-of}
+use Rattle.logic.specs.Every.{every, every-at, true-of}
 use Rattle.meaning.specs.declared.Meaning.the-variants.{Dtn, Por}
 use Rattle.refusals.specs.Numbers.Outcome.{accepted}
-use Rattle.refusals.specs.Tests.{pick}
 use Rattle.command.specs.Codes.{secondOutcome}
 use Rattle.command.specs.Signs.{detuningOf}
 use Rattle.command.specs.Others.{single, found, unassigned, joinedOutcome, otherOutcome}
@@ -37,7 +36,7 @@ ranged-as a within t b h =
 
 -- low nibbles other than 2, 6 and E: DTN, POR and what is unassigned
 joined-kind : (a b : ℕ) → a < 256 → (a % 16 ≡ 2 → ⊥) → (a % 16 ≡ 6 → ⊥) → (a % 16 ≡ 14 → ⊥)
-    → kindOf (otherOutcome a b) ≡ pick (eqb (a % 16) 0x0A) Event (pick (eqb (a % 4) 3) Event (Bad 27))
+    → kindOf (otherOutcome a b) ≡ cond (eqb (a % 16) 0x0A) Event (cond (eqb (a % 4) 3) Event (Bad 27))
 joined-kind a b h p q r =
     let test = true-of (eqb (a % 16) 6 || eqb (a % 16) 14 || not (isOneOf singles a)) (every-at (λ k. eqb (k % 16) 6 || eqb (k % 16) 14 || not (isOneOf singles k)) 256 tt a h) in
     let none = not-true (isOneOf singles a) (rw (ne-eqb (a % 16) 6 q, ne-eqb (a % 16) 14 r) at test) in
@@ -45,7 +44,7 @@ joined-kind a b h p q r =
     rw (other, joined-as a b h, ne-eqb (a % 64) 0x1E (λ e. r (omega arith)), ne-eqb (a % 64) 0x3E (λ e. r (omega arith)))
     (go (eqb (a % 16) 0x0A) (eqb (a % 4) 3) (detuningOf (a / 32 * 256 + b) (a / 16 % 2)) (a / 4 * 256 + b))
   where
-    go : (s t : Bool) (z : ℤ) (v : ℕ) → kindOf (pick s (accepted (Dtn z)) (pick t (accepted (Por v)) unassigned)) ≡ pick s Event (pick t Event (Bad 27))
+    go : (s t : Bool) (z : ℤ) (v : ℕ) → kindOf (cond s (accepted (Dtn z)) (cond t (accepted (Por v)) unassigned)) ≡ cond s Event (cond t Event (Bad 27))
     go true t z v = refl
     go false true z v = refl
     go false false z v = refl

@@ -5,36 +5,35 @@
 -- row3, rowB, rowF   a second byte behind 01 whose low nibble is 3, B or F
 -- secondKind         every second byte behind 01
 use Prim.Native.Nat.{ℕ, _+_, _/_, _%_}
-use mathlib.Core.Bool.{Bool, _||_}
+use mathlib.Core.Bool.{Bool, _||_, cond}
 use lib.Dec.{eqb, leb}
 use Rattle.refusals.specs.Numbers.{numberOf, unassignedPair, valueRange}
-use Rattle.refusals.specs.Tests.{pick}
 use Rattle.kind.specs.declared.Kind.{Kind}
 use Rattle.kind.specs.declared.Kind.the-variants.{Event, Tal, Def, End, Cal, Hlt, Bad}
 
 abbrev pub eventUnless : Bool → Kind
-eventUnless b = pick b (Bad (numberOf unassignedPair)) Event
+eventUnless b = cond b (Bad (numberOf unassignedPair)) Event
 
 abbrev pub eventIf : Bool → Kind
-eventIf b = pick b Event (Bad (numberOf valueRange))
+eventIf b = cond b Event (Bad (numberOf valueRange))
 
 abbrev pub row3 : ℕ → Kind
-row3 b = pick (leb 0x90 b) (Def (b / 16 + 8)) (eventUnless (eqb b 0x53 || eqb b 0x83))
+row3 b = cond (leb 0x90 b) (Def (b / 16 + 8)) (eventUnless (eqb b 0x53 || eqb b 0x83))
 
 abbrev pub rowB : ℕ → Kind
-rowB b = pick (leb 0x90 b) (Cal (b / 16 + 8)) (eventUnless (eqb b 0x8B))
+rowB b = cond (leb 0x90 b) (Cal (b / 16 + 8)) (eventUnless (eqb b 0x8B))
 
 abbrev pub rowF : ℕ → Kind
 rowF b =
-    pick (eqb b 0x0F) Tal
-    (pick (eqb b 0x2F) End
-    (pick (eqb b 0x4F) Hlt
+    cond (eqb b 0x0F) Tal
+    (cond (eqb b 0x2F) End
+    (cond (eqb b 0x4F) Hlt
     (eventUnless (eqb b 0x6F || eqb b 0x7F || eqb b 0x9F || eqb b 0xBF || eqb b 0xCF || eqb b 0xFF))))
 
 abbrev pub secondKind : ℕ → Kind
 secondKind b =
-    pick (eqb (b % 16) 0x2) (Cal (b / 16))
-    (pick (eqb (b % 16) 0x3) (row3 b)
-    (pick (eqb (b % 16) 0x6) (Def (b / 16))
-    (pick (eqb (b % 16) 0xB) (rowB b)
-    (pick (eqb (b % 16) 0xF) (rowF b) Event))))
+    cond (eqb (b % 16) 0x2) (Cal (b / 16))
+    (cond (eqb (b % 16) 0x3) (row3 b)
+    (cond (eqb (b % 16) 0x6) (Def (b / 16))
+    (cond (eqb (b % 16) 0xB) (rowB b)
+    (cond (eqb (b % 16) 0xF) (rowF b) Event))))

@@ -4,7 +4,7 @@
 -- kind-bad              a pair that is refused is refused with 27 or 28
 use Prim.Native.Nat.{ℕ, _+_, _*_, _/_, _%_, _<_}
 use mathlib.Core.Path.{_≡_, refl, sym, _∙_, subst}
-use mathlib.Core.Bool.{Bool, true, false, _&&_, _||_}
+use mathlib.Core.Bool.{Bool, true, false, _&&_, _||_, cond}
 use mathlib.Core.Logic.{_⊎_, inl, inr}
 use native.Mathlib.Omega.{arith}
 use lib.Dec.{T, eqb, leb, ltb, eqb→eq}
@@ -13,10 +13,9 @@ use lib.Signed.{leZ}
 use borrow.Author.Tests.{lt-ltb, ltb-true}
 use Rattle.meaning.specs.declared.Meaning.{Meaning}
 use Rattle.meaning.specs.declared.Meaning.the-variants.{Note, Sca, Vdp, Tps, Pvd, Pvr, Rtp, Jif}
-use Rattle.meaning.specs.Every.{every-at, all-left, all-right, true-of}
+use Rattle.logic.specs.Every.{every-at, all-left, all-right, true-of}
 use Rattle.refusals.specs.Numbers.{Outcome}
 use Rattle.refusals.specs.Numbers.Outcome.{accepted}
-use Rattle.refusals.specs.Tests.{pick}
 use Rattle.note.specs.Reading.{noteOf}
 use Rattle.command.specs.Patterns as Pattern
 use Rattle.command.specs.Patterns.{byte, number}
@@ -53,13 +52,13 @@ held (Bad n) = n
 
 abbrev made : ℕ → ℕ → Kind
 made t n =
-    pick (eqb t 0) Event
-    (pick (eqb t 1) (Hed n)
-    (pick (eqb t 2) Tal
-    (pick (eqb t 3) (Def n)
-    (pick (eqb t 4) End
-    (pick (eqb t 5) (Cal n)
-    (pick (eqb t 6) Hlt (Bad n)))))))
+    cond (eqb t 0) Event
+    (cond (eqb t 1) (Hed n)
+    (cond (eqb t 2) Tal
+    (cond (eqb t 3) (Def n)
+    (cond (eqb t 4) End
+    (cond (eqb t 5) (Cal n)
+    (cond (eqb t 6) Hlt (Bad n)))))))
 
 made-back : (k : Kind) → made (tag k) (held k) ≡ k
 made-back Event = refl
@@ -109,7 +108,7 @@ rtp v =
 
 jif : (v : ℕ) → Bounded (jifOutcome v)
 jif v =
-    picked Bounded (leb v 757) (accepted (Jif (subℕ v 0))) (pick (leb v 823) outOfRange (accepted (Jif (subℕ v 1024)))) (λ t. tt)
+    picked Bounded (leb v 757) (accepted (Jif (subℕ v 0))) (cond (leb v 823) outOfRange (accepted (Jif (subℕ v 1024)))) (λ t. tt)
     (picked Bounded (leb v 823) outOfRange (accepted (Jif (subℕ v 1024))) (λ t. tt) tt)
 
 single-bounded : (a b : ℕ) → b < 256 → Each Bounded single a b

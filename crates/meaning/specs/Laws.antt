@@ -8,12 +8,13 @@ use native.Mathlib.Omega.{arith}
 use lib.Dec.{leb, lit≤}
 use lib.IntN.{ℤ}
 use borrow.Author.Tests.{leb-true}
+use Rattle.logic.specs.Truth.{both-right}
 use Rattle.meaning.specs.declared.Letter.{Letter}
 use Rattle.meaning.specs.declared.Letter.the-variants.{C, D, E, F, G, A, B}
 use Rattle.meaning.specs.declared.Accidental.{Accidental}
 use Rattle.meaning.specs.declared.Accidental.the-variants.{Flat, Natural, Sharp, DoubleSharp, DoubleFlat}
 use Rattle.meaning.specs.declared.Pitch.{Pitch}
-use Rattle.refusals.specs.Laws.{refused-once, both-right}
+use Rattle.refusals.specs.Laws.{refused-once}
 use Rattle.meaning.specs.declared.Meaning.{Meaning}
 use Rattle.meaning.specs.declared.Reading.{Reading}
 use Rattle.meaning.specs.declared.Reading.the-variants as Reading

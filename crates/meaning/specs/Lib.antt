@@ -1,4 +1,3 @@
 pub mod Answers
 pub mod Pitches
-pub mod Every
 pub mod Laws

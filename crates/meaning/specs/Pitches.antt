@@ -6,7 +6,7 @@
 -- halfStep                       '12 × octave + .. + accidental, so -1 to 96'
 -- stepOutcome                    the call's answer: 43 outside the tables
 use Prim.Native.Nat.{ℕ, _+_, _*_}
-use mathlib.Core.Bool.{Bool, true, false, not, _&&_}
+use mathlib.Core.Bool.{Bool, true, false, not, _&&_, cond}
 use lib.Dec.{leb}
 use lib.IntN.{ℤ, subℕ}
 use Rattle.meaning.specs.declared.Letter.{Letter}
@@ -16,7 +16,6 @@ use Rattle.meaning.specs.declared.Accidental.the-variants.{Flat, Natural
 use Rattle.meaning.specs.declared.Pitch.{Pitch}
 use Rattle.refusals.specs.Numbers.{Outcome, numberOf, noPair}
 use Rattle.refusals.specs.Numbers.Outcome.{accepted, refused}
-use Rattle.refusals.specs.Tests.{pick}
 
 abbrev pub doubleIsSharp : Letter → Bool
 doubleIsSharp C = true
@@ -64,4 +63,4 @@ abbrev pub halfStep : Pitch → ℤ
 halfStep p = subℕ (12 * p .octave + letterStep (p .letter) + raisedBy (p .accidental)) (loweredBy (p .accidental))
 
 abbrev pub stepOutcome : Pitch → Outcome ℤ
-stepOutcome p = pick (inTables p) (accepted (halfStep p)) (refused (numberOf noPair) 0)
+stepOutcome p = cond (inTables p) (accepted (halfStep p)) (refused (numberOf noPair) 0)

@@ -8,11 +8,10 @@
 -- end           the place behind an END
 -- placeAfter, framesAfter, startsAfter   behind each pair: the place, what is kept of repeats and calls, and where the bodies of DEFs begin
 use Prim.Native.Nat.{ℕ, _+_, _-_, _*_, _/_, _%_, _<_, _≤_}
-use mathlib.Core.Bool.{_&&_}
+use mathlib.Core.Bool.{_&&_, cond}
 use mathlib.Core.List.{List}
 use lib.Dec.{eqb, ltb}
 use lib.ListN.{getD, set}
-use Rattle.refusals.specs.Tests.{pick}
 use Rattle.kind.specs.declared.Kind.{Kind}
 use Rattle.kind.specs.declared.Kind.the-variants as Kind
 use Rattle.moves.specs.declared.Move.{Move}
@@ -59,14 +58,14 @@ top p frames = getD frames (p .depth - 1) 0
 
 abbrev pub tal : Place → List ℕ → Place
 tal p frames =
-    pick (ltb 1 (top p frames % 256)) (record { at = top p frames / 256 + 1; depth = p .depth }) (record { at = p .at + 1; depth = p .depth - 1 })
+    cond (ltb 1 (top p frames % 256)) (record { at = top p frames / 256 + 1; depth = p .depth }) (record { at = p .at + 1; depth = p .depth - 1 })
 
 abbrev pub talFrames : Place → List ℕ → List ℕ
-talFrames p frames = pick (ltb 1 (top p frames % 256)) (set frames (p .depth - 1) (top p frames - 1)) frames
+talFrames p frames = cond (ltb 1 (top p frames % 256)) (set frames (p .depth - 1) (top p frames - 1)) frames
 
 abbrev pub end : Place → List ℕ → Place
 end p frames =
-    pick (ltb 0 (p .depth) && eqb (top p frames % 256) 0)
+    cond (ltb 0 (p .depth) && eqb (top p frames % 256) 0)
     (record { at = top p frames / 256 + 1; depth = p .depth - 1 })
     (record { at = p .at + 1; depth = p .depth })
 

@@ -14,6 +14,7 @@ use mathlib.Core.List.{List}
 use native.Mathlib.Omega.{arith}
 use borrow.Author.Tests.{lt-ltb, le-ltb}
 use lib.ListN.{length, take, length-take}
+use Rattle.fields.specs.Parts.{partOf}
 use Rattle.meaning.specs.declared.Meaning.{Meaning}
 use Rattle.refusals.specs.Numbers.{Outcome}
 use Rattle.refusals.specs.Numbers.Outcome.{accepted, refused}
@@ -21,12 +22,12 @@ use Rattle.refusals.specs.Tests.{None, firstOf}
 use Rattle.refusals.specs.Laws.{passed-none, none-passed, two-ways, refused-once}
 use Rattle.refusals.specs.declared.Verdict.{Verdict}
 use Rattle.refusals.specs.declared.Verdict.the-variants.{Passed, Failed}
-use Rattle.container.specs.declared.Span.{Span}
+use Rattle.fields.specs.declared.Span.{Span}
 use Rattle.container.specs.declared.Layout.{Layout}
 use Rattle.container.specs.Head.{headOf, voicesEnd}
 use Rattle.container.specs.Text.{line}
 use Rattle.container.specs.Layout.{layoutOf, containerTests, containerOutcome}
-use Rattle.container.specs.Laws.{none-layout, layout-none, layout-of, partOf, lines-part}
+use Rattle.container.specs.Laws.{none-layout, layout-none, layout-of, lines-part}
 use Rattle.bodies.specs.Voice.{pairs}
 use Rattle.bodies.specs.Playing.{eventsOf, walkedOf}
 use Rattle.structure.specs.declared.Finding.{Finding}

@@ -7,12 +7,12 @@
 -- told          what an answer says
 use Prim.Native.Nat.{ℕ}
 use mathlib.Core.List.{List}
+use Rattle.fields.specs.Parts.{partOf}
 use Rattle.refusals.specs.Numbers.{Outcome}
 use Rattle.refusals.specs.Numbers.Outcome.{accepted, refused}
-use Rattle.container.specs.declared.Span.{Span}
+use Rattle.fields.specs.declared.Span.{Span}
 use Rattle.container.specs.declared.Layout.{Layout}
 use Rattle.container.specs.Layout.{containerOutcome}
-use Rattle.container.specs.Laws.{partOf}
 use Rattle.mus.specs.declared.Voice.{Voice}
 use Rattle.mus.specs.declared.Song.{Song}
 use Rattle.mus.specs.declared.Reading.{Reading}

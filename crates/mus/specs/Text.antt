@@ -4,20 +4,20 @@
 -- textLine   a file's line
 use Prim.Native.Nat.{ℕ}
 use mathlib.Core.List.{List, []}
+use mathlib.Core.Bool.{cond}
 use lib.Dec.{eqb}
+use Rattle.fields.specs.Parts.{partOf}
 use Rattle.refusals.specs.Numbers.{Outcome}
 use Rattle.refusals.specs.Numbers.Outcome.{accepted, refused}
-use Rattle.refusals.specs.Tests.{pick}
-use Rattle.container.specs.declared.Span.{Span}
-use Rattle.container.specs.Laws.{partOf}
+use Rattle.fields.specs.declared.Span.{Span}
 use Rattle.mus.specs.declared.Song.{Song}
 use Rattle.mus.specs.Song.{musOutcome}
 
 abbrev pub lineSpan : Song → ℕ → Span
 lineSpan s n =
-    pick (eqb n 1) (s .line1)
-    (pick (eqb n 2) (s .line2)
-    (pick (eqb n 3) (s .line3) (pick (eqb n 4) (s .line4) (pick (eqb n 5) (s .line5) (record { from = 0; len = 0 })))))
+    cond (eqb n 1) (s .line1)
+    (cond (eqb n 2) (s .line2)
+    (cond (eqb n 3) (s .line3) (cond (eqb n 4) (s .line4) (cond (eqb n 5) (s .line5) (record { from = 0; len = 0 })))))
 
 abbrev pub lineOf : List ℕ → Outcome Song → ℕ → List ℕ
 lineOf f (accepted s) n = partOf f (lineSpan s n)

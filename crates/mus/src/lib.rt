@@ -4,7 +4,7 @@ ghost use mathlib.Core.Path.{_≡_};
 ghost use Rattle.mus.specs.Song.{musOutcome, told};
 ghost use Rattle.mus.specs.Text.{textLine};
 use container::Container;
-use container::Span;
+use fields::Span;
 use refusals::Refusal;
 
 mod voices;

@@ -14,8 +14,8 @@ use crate::Reading;
 use crate::Song;
 use crate::Voice;
 use container::Layout;
-use container::Span;
 use counts::Counted;
+use fields::Span;
 use refusals::Refusal;
 use structure::Finding;
 

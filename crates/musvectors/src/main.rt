@@ -1,6 +1,6 @@
 // Runs the hand-made files of data/ through accept and text_line, and shows every answer, a line a file. tools/musvectors makes
 // the files and says what each must give.
-use container::Span;
+use fields::Span;
 use files::Loaded;
 use libc::STDOUT_FILENO;
 use mus::Reading;

@@ -6,10 +6,11 @@
 -- read-note-writes     what is read is written as document 01 says that the writer does
 use Prim.Native.Nat.{ℕ, _+_, _*_, _-_, _/_, _%_, _≤_, _<_}
 use mathlib.Core.Path.{_≡_, refl, ap, subst}
-use mathlib.Core.Bool.{Bool, true, false, not, _&&_, _||_}
+use mathlib.Core.Bool.{Bool, true, false, not, _&&_, _||_, cond}
 use native.Mathlib.Omega.{arith}
 use lib.Dec.{T, eqb, ltb, eqb→eq, ltb→lt, lit≤}
 use borrow.Author.Tests.{ne-eqb, not-true}
+use Rattle.logic.specs.Truth.{both-left}
 use Rattle.meaning.specs.declared.Duration.{Duration}
 use Rattle.meaning.specs.declared.Duration.the-variants.{Whole, Half, Quarter, Eighth, Sixteenth, ThirtySecond, SixtyFourth, UtilityDuration, UtilityVoice, AbsolutePitch}
 use Rattle.meaning.specs.declared.Shape.{Shape}
@@ -23,9 +24,8 @@ use Rattle.meaning.specs.declared.Tone.{Tone}
 use Rattle.meaning.specs.declared.Tone.the-variants.{Rest, Sounds}
 use Rattle.meaning.specs.declared.Note.{Note}
 use Rattle.meaning.specs.Answers.{Bytes}
-use Rattle.meaning.specs.Every.{every, every-at, all-left, all-right, implied}
+use Rattle.logic.specs.Every.{every, every-at, all-left, all-right, implied}
 use Rattle.meaning.specs.Pitches.{hasAccidental, inTables, doubleIsSharp}
-use Rattle.refusals.specs.Laws.{both-left}
 use Rattle.meaning.specs.Laws.{octave-low}
 use Rattle.note.specs.declared.Byte.{Byte}
 use Rattle.note.specs.declared.Byte.the-variants.{Is, None}
@@ -33,7 +33,6 @@ use Rattle.note.specs.Reading.{noteOf, toneOf, letterOf, accidentalOf}
 use Rattle.note.specs.Writing.{shapeBits, plainOnly, plainOrTriplet, lengthByte, firstByte, letterNumber, accidentalBits, toneByte, both, noteSpelling}
 use Rattle.note.specs.Usual.{usualFirst, usualSecond}
 use Rattle.refusals.specs.Numbers.Outcome.{accepted}
-use Rattle.refusals.specs.Tests.{pick}
 
 pub shape-low : (s : Shape) → shapeBits s ≤ 160
 shape-low Plain = lit≤ tt
@@ -218,7 +217,7 @@ pitch-reads p e =
     let has = accidental-back (p .letter) (p .accidental) (both-left (hasAccidental (p .letter) (p .accidental)) _ e) in
     (rw (number, top, middle, sounds, letter-back (p .letter), has), omega arith)
 
-tone-taken : (t : Bool) (n b : ℕ) → pick t (Is n) None ≡ Is b → (t ≡ true) × (n ≡ b)
+tone-taken : (t : Bool) (n b : ℕ) → cond t (Is n) None ≡ Is b → (t ≡ true) × (n ≡ b)
 tone-taken true n b e = (refl, cc)
 tone-taken false n b e = absurd (let z : _≡_ {A = ℕ} 0 1 = cc in omega arith)
 

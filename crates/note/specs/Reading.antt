@@ -9,6 +9,7 @@
 -- toneOf           'bits 2-0, 0 a rest (nothing else counts) .. octave is 7 less bits 5-3'
 -- noteOf           the note of two bytes, 'Bit 6 is the tie'
 use Prim.Native.Nat.{ℕ, _-_, _/_, _%_}
+use mathlib.Core.Bool.{cond}
 use lib.Dec.{eqb}
 use Rattle.meaning.specs.declared.Duration.{Duration}
 use Rattle.meaning.specs.declared.Duration.the-variants.{Whole, Half, Quarter, Eighth, Sixteenth, ThirtySecond, SixtyFourth, UtilityDuration, UtilityVoice, AbsolutePitch}
@@ -23,53 +24,52 @@ use Rattle.meaning.specs.declared.Tone.the-variants.{Rest, Sounds}
 use Rattle.meaning.specs.declared.Note.{Note}
 use Rattle.meaning.specs.Pitches.{doubleIsSharp}
 use Rattle.note.specs.declared.first.Length.{Length}
-use Rattle.refusals.specs.Tests.{pick}
 
 abbrev pub shapeOf : ℕ → ℕ → Shape
-shapeOf bit7 bit5 = pick (eqb bit7 0) (pick (eqb bit5 0) Plain Dotted) (pick (eqb bit5 0) Triplet DoubleDotted)
+shapeOf bit7 bit5 = cond (eqb bit7 0) (cond (eqb bit5 0) Plain Dotted) (cond (eqb bit5 0) Triplet DoubleDotted)
 
 abbrev pub tripletOrPlain : ℕ → Shape
-tripletOrPlain bit7 = pick (eqb bit7 0) Plain Triplet
+tripletOrPlain bit7 = cond (eqb bit7 0) Plain Triplet
 
 abbrev pub utilityOf : ℕ → ℕ → Length
 utilityOf bit7 bit5 =
-    pick (eqb bit5 0)
+    cond (eqb bit5 0)
     (record { duration = UtilityDuration; shape = tripletOrPlain bit7 })
     (record { duration = UtilityVoice; shape = Plain })
 
 abbrev pub valueOf : ℕ → Duration
 valueOf code =
-    pick (eqb code 2) Whole
-    (pick (eqb code 3) Half
-    (pick (eqb code 4) Quarter
-    (pick (eqb code 5) Eighth
-    (pick (eqb code 6) Sixteenth ThirtySecond))))
+    cond (eqb code 2) Whole
+    (cond (eqb code 3) Half
+    (cond (eqb code 4) Quarter
+    (cond (eqb code 5) Eighth
+    (cond (eqb code 6) Sixteenth ThirtySecond))))
 
 abbrev pub lengthOf : ℕ → Length
 lengthOf a =
-    pick (eqb a 0) (record { duration = AbsolutePitch; shape = Plain })
-    (pick (eqb (a / 4 % 8) 0) (record { duration = SixtyFourth; shape = tripletOrPlain (a / 128) })
-    (pick (eqb (a / 4 % 8) 1) (utilityOf (a / 128) (a / 32 % 2))
+    cond (eqb a 0) (record { duration = AbsolutePitch; shape = Plain })
+    (cond (eqb (a / 4 % 8) 0) (record { duration = SixtyFourth; shape = tripletOrPlain (a / 128) })
+    (cond (eqb (a / 4 % 8) 1) (utilityOf (a / 128) (a / 32 % 2))
     (record { duration = valueOf (a / 4 % 8); shape = shapeOf (a / 128) (a / 32 % 2) })))
 
 abbrev pub letterOf : ℕ → Letter
 letterOf k =
-    pick (eqb k 1) C
-    (pick (eqb k 2) D
-    (pick (eqb k 3) E
-    (pick (eqb k 4) F
-    (pick (eqb k 5) G
-    (pick (eqb k 6) A B)))))
+    cond (eqb k 1) C
+    (cond (eqb k 2) D
+    (cond (eqb k 3) E
+    (cond (eqb k 4) F
+    (cond (eqb k 5) G
+    (cond (eqb k 6) A B)))))
 
 abbrev pub doubleOf : Letter → Accidental
-doubleOf l = pick (doubleIsSharp l) DoubleSharp DoubleFlat
+doubleOf l = cond (doubleIsSharp l) DoubleSharp DoubleFlat
 
 abbrev pub accidentalOf : ℕ → Letter → Accidental
-accidentalOf bits l = pick (eqb bits 3) Flat (pick (eqb bits 2) Natural (pick (eqb bits 1) Sharp (doubleOf l)))
+accidentalOf bits l = cond (eqb bits 3) Flat (cond (eqb bits 2) Natural (cond (eqb bits 1) Sharp (doubleOf l)))
 
 abbrev pub toneOf : ℕ → Tone
 toneOf b =
-    pick (eqb (b % 8) 0) Rest
+    cond (eqb (b % 8) 0) Rest
     (Sounds (record { letter = letterOf (b % 8); accidental = accidentalOf (b / 64) (letterOf (b % 8)); octave = 7 - b / 8 % 8 }))
 
 abbrev pub noteOf : ℕ → ℕ → Note

@@ -2,15 +2,14 @@
 -- usualFirst    the first byte that the writer has for the note of a first byte with low bits 00
 -- usualSecond   the second byte that the writer has for the tone of a second byte
 use Prim.Native.Nat.{ℕ, _+_, _*_, _/_, _%_}
-use mathlib.Core.Bool.{_&&_}
+use mathlib.Core.Bool.{_&&_, cond}
 use lib.Dec.{eqb}
-use Rattle.refusals.specs.Tests.{pick}
 
 abbrev pub usualFirst : ℕ → ℕ
 usualFirst a =
-    pick (eqb a 0) 0
-    (pick (eqb (a / 4 % 8) 0) (a / 64 * 64 + 32 + a % 32)
-    (pick (eqb (a / 4 % 8) 1 && eqb (a / 32 % 2) 1) (a % 128) a))
+    cond (eqb a 0) 0
+    (cond (eqb (a / 4 % 8) 0) (a / 64 * 64 + 32 + a % 32)
+    (cond (eqb (a / 4 % 8) 1 && eqb (a / 32 % 2) 1) (a % 128) a))
 
 abbrev pub usualSecond : ℕ → ℕ
-usualSecond b = pick (eqb (b % 8) 0) 0 b
+usualSecond b = cond (eqb (b % 8) 0) 0 b

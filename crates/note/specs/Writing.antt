@@ -8,7 +8,7 @@
 -- letterNumber, accidentalBits, toneByte   the second byte
 -- both, noteSpelling           the two bytes, or 43
 use Prim.Native.Nat.{ℕ, _+_, _*_, _-_}
-use mathlib.Core.Bool.{Bool, true, false}
+use mathlib.Core.Bool.{Bool, true, false, cond}
 use lib.Dec.{eqb}
 use Rattle.meaning.specs.declared.Duration.{Duration}
 use Rattle.meaning.specs.declared.Duration.the-variants.{Whole, Half, Quarter, Eighth, Sixteenth, ThirtySecond, SixtyFourth, UtilityDuration, UtilityVoice, AbsolutePitch}
@@ -27,7 +27,6 @@ use Rattle.note.specs.declared.Byte.{Byte}
 use Rattle.note.specs.declared.Byte.the-variants.{Is, None}
 use Rattle.refusals.specs.Numbers.{Outcome, numberOf, noPair}
 use Rattle.refusals.specs.Numbers.Outcome.{accepted, refused}
-use Rattle.refusals.specs.Tests.{pick}
 
 abbrev pub shapeBits : Shape → ℕ
 shapeBits Plain = 0
@@ -62,7 +61,7 @@ lengthByte AbsolutePitch s = plainOnly 0x00 s
 abbrev pub tiedByte : Byte → Bool → Byte
 tiedByte None t = None
 tiedByte (Is n) false = Is n
-tiedByte (Is n) true = pick (eqb n 0) None (Is (n + 64))
+tiedByte (Is n) true = cond (eqb n 0) None (Is (n + 64))
 
 abbrev pub firstByte : Duration → Shape → Bool → Byte
 firstByte d s t = tiedByte (lengthByte d s) t
@@ -85,7 +84,7 @@ accidentalBits DoubleFlat = 0
 
 abbrev pub toneByte : Tone → Byte
 toneByte Rest = Is 0
-toneByte (Sounds p) = pick (inTables p) (Is (accidentalBits (p .accidental) + 8 * (7 - p .octave) + letterNumber (p .letter))) None
+toneByte (Sounds p) = cond (inTables p) (Is (accidentalBits (p .accidental) + 8 * (7 - p .octave) + letterNumber (p .letter))) None
 
 abbrev pub both : Byte → Byte → Outcome Bytes
 both None b = refused (numberOf noPair) 0

@@ -2,6 +2,7 @@
 -- meaningOf    a pair's meaning, or 27 (unassigned) or 28 (out of range): 'First byte with low bits 00: a note', else a command
 -- spellingOf   a meaning's two bytes, or 43: notes, then 004's commands in its order, each with its greatest value and where the value stands
 use Prim.Native.Nat.{ℕ, _%_}
+use mathlib.Core.Bool.{cond}
 use lib.Dec.{eqb}
 use Rattle.meaning.specs.declared.Meaning.{Meaning}
 use Rattle.meaning.specs.declared.Meaning.the-variants.{Note, Dcy, Rup, Cal, Bmp, Flt, Rng, Snc, Fx, Def, Atk, Sus, Lfo, Pv, Rdn, Wav, Fm, Rls, Res, ThreeOff, Vol, Tal, End, Hlt, Src, Dst, Pw, Tem, Utl, Pnt, Hed, Flg, Ps, Fs, Sca, Vdp, Vrt, Aut, Tps, Aux, Pvd, Pvr, Max, Utv, Fc, Rtp, Hld, Ms, Jif, Dtn, Por}
@@ -13,10 +14,9 @@ use Rattle.spelling.specs.Counts.{pair, bumped, switched, onlyYes, counted, phr
 use Rattle.spelling.specs.Signs.{signedByte, jif, dtn, tps, rtp}
 use Rattle.refusals.specs.Numbers.{Outcome}
 use Rattle.refusals.specs.Numbers.Outcome.{accepted}
-use Rattle.refusals.specs.Tests.{pick}
 
 abbrev pub meaningOf : ℕ → ℕ → Outcome Meaning
-meaningOf a b = pick (eqb (a % 4) 0) (accepted (Note (noteOf a b))) (commandOutcome a b)
+meaningOf a b = cond (eqb (a % 4) 0) (accepted (Note (noteOf a b))) (commandOutcome a b)
 
 abbrev pub spellingOf : Meaning → Outcome Bytes
 spellingOf (Note n) = noteSpelling n

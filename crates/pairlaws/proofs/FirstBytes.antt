@@ -8,10 +8,10 @@ use mathlib.Core.Bool.{Bool, true, false, not, _&&_, _||_}
 use native.Mathlib.Omega.{arith}
 use lib.Dec.{eqb}
 use borrow.Author.Tests.{ne-eqb, not-true}
+use Rattle.logic.specs.Truth.{both-left, both-right}
 use Rattle.refusals.specs.Numbers.Outcome.{accepted}
 use Rattle.meaning.specs.declared.Meaning.the-variants.{Pw}
-use Rattle.refusals.specs.Laws.{both-left, both-right}
-use Rattle.meaning.specs.Every.{every-at, true-of, implied}
+use Rattle.logic.specs.Every.{every-at, true-of, implied}
 use Rattle.command.specs.Others.{single, found, joinedOutcome}
 use Rattle.command.proofs.Firsts.{isOneOf, singles, pulse-as, single-missed}
 use Rattle.pair.specs.Pairs.{meaningOf}

@@ -3,13 +3,12 @@
 -- jif-back, dtn-back                    JIF and DTN, of either sign
 use Prim.Native.Nat.{ℕ, _+_, _*_, _-_, _/_, _%_, _≤_}
 use mathlib.Core.Path.{_≡_, refl, _∙_, ap}
-use mathlib.Core.Bool.{Bool, true, false}
+use mathlib.Core.Bool.{Bool, true, false, cond}
 use native.Mathlib.Omega.{arith}
 use lib.Dec.{leb}
 use lib.IntN.{ℤ, pos, negsuc}
 use borrow.Author.Tests.{eq-eqb, ne-eqb, lt-ltb, le-ltb, lt-leb, leb-true}
 use Rattle.refusals.specs.Numbers.Outcome.{accepted}
-use Rattle.refusals.specs.Tests.{pick}
 use Rattle.meaning.specs.declared.Meaning.the-variants.{Pw, Ms, Jif, Dtn, Por}
 use Rattle.command.specs.Signs.{detuningOf, jifOutcome}
 use Rattle.command.proofs.Firsts.{joined-as}
@@ -55,7 +54,7 @@ jif-raw v h =
 pub jif-back : (z : ℤ) → ReadsBack (Jif z) (jif z)
 jif-back (pos n) = go (leb n 757) refl
   where
-    go : (t : Bool) → leb n 757 ≡ t → ReadsBack (Jif (pos n)) (ofSlot (λ k. joined k 1023 0x3E 64) (pick t (In n) Out))
+    go : (t : Bool) → leb n 757 ≡ t → ReadsBack (Jif (pos n)) (ofSlot (λ k. joined k 1023 0x3E 64) (cond t (In n) Out))
     go true e =
         let low = leb-true n 757 e in
         picked (Jif (pos n)) (leb n 1023) (0x3E + 64 * (n / 256)) (n % 256)
@@ -64,7 +63,7 @@ jif-back (pos n) = go (leb n 757) refl
     go false e = (refl, refl)
 jif-back (negsuc n) = go (leb (n + 1) 200) refl
   where
-    go : (t : Bool) → leb (n + 1) 200 ≡ t → ReadsBack (Jif (negsuc n)) (ofSlot (λ k. joined k 1023 0x3E 64) (pick t (In (1024 - (n + 1))) Out))
+    go : (t : Bool) → leb (n + 1) 200 ≡ t → ReadsBack (Jif (negsuc n)) (ofSlot (λ k. joined k 1023 0x3E 64) (cond t (In (1024 - (n + 1))) Out))
     go true e =
         let low = leb-true (n + 1) 200 e in
         let v = 1024 - (n + 1) in
@@ -89,7 +88,7 @@ dtn-raw bit v one h =
 pub dtn-back : (z : ℤ) → ReadsBack (Dtn z) (dtn z)
 dtn-back (pos n) = go (leb n 2047) refl
   where
-    go : (t : Bool) → leb n 2047 ≡ t → ReadsBack (Dtn (pos n)) (pick t (pick t (pair (0x0A + 32 * (n / 256)) (n % 256)) noBytes) noBytes)
+    go : (t : Bool) → leb n 2047 ≡ t → ReadsBack (Dtn (pos n)) (cond t (cond t (pair (0x0A + 32 * (n / 256)) (n % 256)) noBytes) noBytes)
     go true e =
         let low = leb-true n 2047 e in
         joined-good (Dtn (pos n)) n 2047 0x0A 32 low tt
@@ -97,7 +96,7 @@ dtn-back (pos n) = go (leb n 2047) refl
     go false e = (refl, refl)
 dtn-back (negsuc n) = go (leb (n + 1) 2048) refl
   where
-    go : (t : Bool) → leb (n + 1) 2048 ≡ t → ReadsBack (Dtn (negsuc n)) (pick t (joined (2048 - (n + 1)) 2047 0x1A 32) noBytes)
+    go : (t : Bool) → leb (n + 1) 2048 ≡ t → ReadsBack (Dtn (negsuc n)) (cond t (joined (2048 - (n + 1)) 2047 0x1A 32) noBytes)
     go true e =
         let low = leb-true (n + 1) 2048 e in
         let v = 2048 - (n + 1) in

@@ -9,14 +9,14 @@ use native.Mathlib.Decide.{ℕ-discrete, decLt}
 use lib.Dec.{T, eqb, eqb→eq}
 use lib.IntN.{pos, negsuc, subℕ}
 use borrow.Author.Tests.{eq-eqb, ne-eqb, eqb-true, eqb-false, lt-ltb, le-ltb, le-leb, lt-leb}
+use Rattle.logic.specs.Truth.{neither-left, neither-right}
 use Rattle.refusals.specs.Numbers.{Outcome}
 use Rattle.refusals.specs.Numbers.Outcome.{accepted, refused}
 use Rattle.meaning.specs.declared.Meaning.{Meaning}
 use Rattle.meaning.specs.declared.Meaning.the-variants as M
 use Rattle.meaning.specs.declared.Meaning.the-variants.{Pw, Dtn}
 use Rattle.meaning.specs.Answers.{Bytes}
-use Rattle.refusals.specs.Laws.{neither-left, neither-right}
-use Rattle.meaning.specs.Every.{every, every-at, all-left, all-right}
+use Rattle.logic.specs.Every.{every, every-at, all-left, all-right}
 use Rattle.note.specs.Reading.{noteOf}
 use Rattle.note.specs.Usual.{usualFirst, usualSecond}
 use Rattle.note.specs.Laws.{read-note-writes}

@@ -15,7 +15,7 @@ use Rattle.meaning.specs.declared.Pitch.{Pitch}
 use Rattle.meaning.specs.declared.Tone.{Tone}
 use Rattle.meaning.specs.declared.Tone.the-variants.{Rest, Sounds}
 use Rattle.meaning.specs.Pitches.{inTables, halfStep}
-use Rattle.meaning.specs.Every.{every-at, same, same-equal}
+use Rattle.logic.specs.Every.{every-at, same, same-equal}
 use Rattle.note.specs.Reading.{toneOf}
 use Rattle.note.specs.Laws.{pitchByte, pitch-reads}
 use Rattle.command.specs.Patterns.{fits}

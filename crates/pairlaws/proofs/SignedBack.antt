@@ -4,7 +4,7 @@
 -- tps-back, rtp-back    TPS and RTP, by one test over the sizes of either sign
 use Prim.Native.Nat.{ℕ, _+_, _*_, _-_, _/_, _%_, _≤_}
 use mathlib.Core.Path.{_≡_, refl, _∙_, ap}
-use mathlib.Core.Bool.{Bool, true, false, not, _&&_}
+use mathlib.Core.Bool.{Bool, true, false, not, _&&_, cond}
 use native.Mathlib.Omega.{arith}
 use native.Mathlib.Nat.{zero-add}
 use lib.Dec.{T, leb, ltb, ltb→lt}
@@ -12,10 +12,9 @@ use lib.IntN.{ℤ, pos, negsuc}
 use lib.Signed.{leZ}
 use borrow.Author.Tests.{le-leb, ltb-false, not-true}
 use Rattle.refusals.specs.Numbers.Outcome.{accepted}
-use Rattle.refusals.specs.Tests.{pick}
 use Rattle.meaning.specs.declared.Meaning.{Meaning}
 use Rattle.meaning.specs.declared.Meaning.the-variants.{Sca, Tps, Rtp}
-use Rattle.meaning.specs.Every.{every, every-at, true-of, all-left, all-right, sameℤ, sameℤ-equal}
+use Rattle.logic.specs.Every.{every, every-at, true-of, all-left, all-right, sameℤ, sameℤ-equal}
 use Rattle.command.specs.Signs.{signedByte, tpsValue, rtpValue}
 use Rattle.spelling.specs.Counts.{pair, noBytes}
 use Rattle.spelling.specs.Signs.{tps, rtp}
@@ -54,10 +53,10 @@ module _ (M : ℤ → Meaning) (first : ℕ) (inside : ℕ → Bool) (value : �
 
   -- the byte that is written for each number, whose size is that much more, up to a greatest
   sized-back : (z : ℕ → ℤ) (byte : ℕ → ℕ) (greatest more : ℕ) → T (every (λ k. right (byte k) (z k)) (greatest + 1 - more)) → (n size : ℕ) → size ≡ n + more
-      → ReadsBack (M (z n)) (pick (ltb greatest size) noBytes (pair first (byte n)))
+      → ReadsBack (M (z n)) (cond (ltb greatest size) noBytes (pair first (byte n)))
   sized-back z byte greatest more t n size e = go (ltb greatest size) refl
     where
-      go : (u : Bool) → ltb greatest size ≡ u → ReadsBack (M (z n)) (pick u noBytes (pair first (byte n)))
+      go : (u : Bool) → ltb greatest size ≡ u → ReadsBack (M (z n)) (cond u noBytes (pair first (byte n)))
       go true q = (refl, refl)
       go false q =
           let h = ltb-false greatest size q in

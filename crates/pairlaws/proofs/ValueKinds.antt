@@ -4,18 +4,17 @@
 -- single-back, tempo-back, signed-back
 use Prim.Native.Nat.{ℕ, _+_, _*_, _-_, _/_, _%_, _≤_, _<_}
 use mathlib.Core.Path.{_≡_, refl, sym, _∙_, ap, subst}
-use mathlib.Core.Bool.{Bool, true, false, _&&_}
+use mathlib.Core.Bool.{Bool, true, false, _&&_, cond}
 use native.Mathlib.Omega.{arith}
 use lib.Dec.{T, eqb, leb, ltb, eqb→eq, ltb→lt, lit<}
 use borrow.Author.Tests.{leb-true, eqb-true}
 use lib.IntN.{ℤ, pos, negsuc}
+use Rattle.logic.specs.Truth.{both-left, both-right}
 use Rattle.refusals.specs.Numbers.{Outcome}
 use Rattle.refusals.specs.Numbers.Outcome.{accepted}
-use Rattle.refusals.specs.Tests.{pick}
 use Rattle.meaning.specs.declared.Meaning.{Meaning}
 use Rattle.meaning.specs.Answers.{Bytes}
-use Rattle.refusals.specs.Laws.{both-left, both-right}
-use Rattle.meaning.specs.Every.{every, every-at, all-left, all-right}
+use Rattle.logic.specs.Every.{every, every-at, all-left, all-right}
 use Rattle.command.specs.Codes as Codes
 use Rattle.command.specs.Codes.{Command, coded}
 use Rattle.command.specs.Numbering.{numberOf, commandAt}
@@ -27,18 +26,18 @@ use Rattle.spelling.proofs.Steps.{stepped}
 use Rattle.pair.specs.Pairs.{meaningOf}
 use Rattle.pairlaws.specs.Statements.{Good, ReadsBack}
 
-pub picked : (m : Meaning) (t : Bool) (a b : ℕ) → (t ≡ true → Good m a b) → ReadsBack m (pick t (pair a b) noBytes)
+pub picked : (m : Meaning) (t : Bool) (a b : ℕ) → (t ≡ true → Good m a b) → ReadsBack m (cond t (pair a b) noBytes)
 picked m true a b f = f refl
 picked m false a b f = (refl, refl)
 
-pub picked-else : (m : Meaning) (t : Bool) (a b : ℕ) (x : Outcome Bytes) → (t ≡ true → Good m a b) → ReadsBack m x → ReadsBack m (pick t (pair a b) x)
+pub picked-else : (m : Meaning) (t : Bool) (a b : ℕ) (x : Outcome Bytes) → (t ≡ true → Good m a b) → ReadsBack m x → ReadsBack m (cond t (pair a b) x)
 picked-else m true a b x f g = f refl
 picked-else m false a b x f g = g
 
-pub at-value : (M : ℕ → Meaning) (v k : ℕ) (x y : Outcome Bytes) → ReadsBack (M k) x → ReadsBack (M v) y → ReadsBack (M v) (pick (eqb v k) x y)
+pub at-value : (M : ℕ → Meaning) (v k : ℕ) (x y : Outcome Bytes) → ReadsBack (M k) x → ReadsBack (M v) y → ReadsBack (M v) (cond (eqb v k) x y)
 at-value M v k x y f g = go (eqb v k) refl
   where
-    go : (t : Bool) → eqb v k ≡ t → ReadsBack (M v) (pick t x y)
+    go : (t : Bool) → eqb v k ≡ t → ReadsBack (M v) (cond t x y)
     go true e = subst (λ (j : ℕ). ReadsBack (M j) x) (sym (eqb-true v k e)) f
     go false e = g
 
@@ -71,7 +70,7 @@ pub phrase-back : (c : Command) (M : ℕ → Meaning) → ((v : ℕ) → Codes.m
     → (v low high : ℕ) → T (every (λ k. codedIs c (low + 16 * k) k) 16) → T (every (λ k. codedIs c (high + 16 * (17 + k - 16)) (17 + k)) 7)
     → ReadsBack (M v) (phrase v low high)
 phrase-back c M is v low high t u =
-    picked-else (M v) (leb v 15) 1 (low + 16 * v) (pick (leb 17 v && leb v 23) (pair 1 (high + 16 * (v - 16))) noBytes)
+    picked-else (M v) (leb v 15) 1 (low + 16 * v) (cond (leb 17 v && leb v 23) (pair 1 (high + 16 * (v - 16))) noBytes)
     (λ e. let h = leb-true v 15 e in coded-good c M is (low + 16 * v) v (every-at (λ k. codedIs c (low + 16 * k) k) 16 t v (omega arith)))
     (picked (M v) (leb 17 v && leb v 23) 1 (high + 16 * (v - 16)) upper)
   where
@@ -106,7 +105,7 @@ pub signed-back : (M : ℤ → Meaning) (first below above : ℕ)
     → T (ltb first 256) → T (ltb above 256) → (z : ℤ) → ReadsBack (M z) (signedByte first z below above)
 signed-back M first below above up down f a (pos n) = go (leb n above) refl
   where
-    go : (t : Bool) → leb n above ≡ t → ReadsBack (M (pos n)) (ofSlot (λ k. alone first k 255) (pick t (In n) Out))
+    go : (t : Bool) → leb n above ≡ t → ReadsBack (M (pos n)) (ofSlot (λ k. alone first k 255) (cond t (In n) Out))
     go true e =
         let low = leb-true n above e in
         let top = ltb→lt above 256 a in
@@ -114,7 +113,7 @@ signed-back M first below above up down f a (pos n) = go (leb n above) refl
     go false e = (refl, refl)
 signed-back M first below above up down f a (negsuc n) = go (leb (n + 1) below) refl
   where
-    go : (t : Bool) → leb (n + 1) below ≡ t → ReadsBack (M (negsuc n)) (ofSlot (λ k. alone first k 255) (pick t (In (256 - (n + 1))) Out))
+    go : (t : Bool) → leb (n + 1) below ≡ t → ReadsBack (M (negsuc n)) (ofSlot (λ k. alone first k 255) (cond t (In (256 - (n + 1))) Out))
     go true e =
         let low = leb-true (n + 1) below e in
         picked (M (negsuc n)) (leb (256 - (n + 1)) 255) first (256 - (n + 1)) (λ q. (down n low, ltb→lt first 256 f, omega arith))

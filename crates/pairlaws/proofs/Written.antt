@@ -2,20 +2,19 @@
 -- reads-back   for every meaning
 use Prim.Native.Nat.{ℕ, _+_, _-_, _%_, _<_}
 use mathlib.Core.Path.{_≡_, refl, ap}
-use mathlib.Core.Bool.{Bool, true, false, _||_}
+use mathlib.Core.Bool.{Bool, true, false, _||_, cond}
 use native.Mathlib.Omega.{arith}
 use native.Mathlib.Nat.{zero-add}
 use lib.Dec.{T, eqb, ltb, eqb→eq, lit<}
 use borrow.Author.Tests.{eq-eqb, le-leb, ltb-false, eqb-false}
+use Rattle.logic.specs.Truth.{neither-left, neither-right}
 use Rattle.refusals.specs.Numbers.Outcome.{accepted}
-use Rattle.refusals.specs.Tests.{pick}
 use Rattle.meaning.specs.declared.Bump.the-variants.{Up, Down}
 use Rattle.meaning.specs.declared.Note.{Note}
 use Rattle.meaning.specs.declared.Meaning.{Meaning}
 use Rattle.meaning.specs.declared.Meaning.the-variants as M
 use Rattle.meaning.specs.declared.Meaning.the-variants.{Dcy, Rup, Cal, Bmp, Flt, Rng, Snc, Fx, Def, Atk, Sus, Lfo, Pv, Rdn, Wav, Fm, Rls, Res, ThreeOff, Vol, Tal, End, Hlt, Src, Dst, Pw, Tem, Utl, Pnt, Hed, Flg, Ps, Fs, Sca, Vdp, Vrt, Aut, Tps, Aux, Pvd, Pvr, Max, Utv, Fc, Rtp, Hld, Ms, Jif, Dtn, Por}
-use Rattle.refusals.specs.Laws.{neither-left, neither-right}
-use Rattle.meaning.specs.Every.{every-at}
+use Rattle.logic.specs.Every.{every-at}
 use Rattle.note.specs.declared.Byte.{Byte}
 use Rattle.note.specs.declared.Byte.the-variants.{Is, None}
 use Rattle.note.specs.Reading.{noteOf}
@@ -51,7 +50,7 @@ destination-back v =
 tempo-back : (v : ℕ) → ReadsBack (Tem v) (tempo v)
 tempo-back v = go (eqb v 0 || ltb 256 v) refl
   where
-    go : (t : Bool) → eqb v 0 || ltb 256 v ≡ t → ReadsBack (Tem v) (pick t noBytes (pair 0x06 (v % 256)))
+    go : (t : Bool) → eqb v 0 || ltb 256 v ≡ t → ReadsBack (Tem v) (cond t noBytes (pair 0x06 (v % 256)))
     go true e = (refl, refl)
     go false e =
         let none = neither-left (eqb v 0) (ltb 256 v) e in

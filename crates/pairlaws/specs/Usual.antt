@@ -4,21 +4,20 @@
 -- usualRtp   'octaves and remainder of one sign': an octave goes from the one to the other where their signs differ
 -- usual      the pair that the writer uses for what a pair means
 use Prim.Native.Nat.{ℕ, _+_, _*_, _-_, _/_, _%_}
-use mathlib.Core.Bool.{_&&_}
+use mathlib.Core.Bool.{_&&_, cond}
 use lib.Dec.{eqb, ltb}
 use Rattle.meaning.specs.Answers.{Bytes}
 use Rattle.note.specs.Usual.{usualFirst, usualSecond}
-use Rattle.refusals.specs.Tests.{pick}
 
 abbrev pub usualTps : ℕ → ℕ
-usualTps b = pick (eqb b 0xB1) 0x0E b
+usualTps b = cond (eqb b 0xB1) 0x0E b
 
 abbrev pub usualRtp : ℕ → ℕ
 usualRtp b =
-    pick (ltb (b % 8) 3 && ltb (b / 8) 11) (8 * (b / 8 + 12) + (b % 8 + 1))
-    (pick (ltb 3 (b % 8) && ltb 11 (b / 8)) (8 * (b / 8 - 12) + (b % 8 - 1)) b)
+    cond (ltb (b % 8) 3 && ltb (b / 8) 11) (8 * (b / 8 + 12) + (b % 8 + 1))
+    (cond (ltb 3 (b % 8) && ltb 11 (b / 8)) (8 * (b / 8 - 12) + (b % 8 - 1)) b)
 
 abbrev pub usual : ℕ → ℕ → Bytes
 usual a b =
-    pick (eqb (a % 4) 0) (record { first = usualFirst a; second = usualSecond b })
-    (record { first = a; second = pick (eqb a 0xA6) (usualTps b) (pick (eqb a 0x2E) (usualRtp b) b) })
+    cond (eqb (a % 4) 0) (record { first = usualFirst a; second = usualSecond b })
+    (record { first = a; second = cond (eqb a 0xA6) (usualTps b) (cond (eqb a 0x2E) (usualRtp b) b) })

@@ -4,24 +4,24 @@
 -- none-append                none of a list applies, so none of its second part
 -- later, first-append        a list in two parts: the second counts where the first passes
 -- testedAll, tested-first    tests made one by one come to what the list comes to
+-- number-above, first-above  a refusal's number is above 0, of each reason and of tests made in order
 -- refused-once               a refusal is known by its number and place
 -- two-ways                   nothing is both accepted and refused
 -- guarded-passed, guarded-accepted   what comes after tests is accepted only where they pass
--- both, neither, and the left and right of each   what a test of two conditions joined shows (crates/fields/specs/Truth.antt)
-use Prim.Native.Nat.{ℕ}
-use mathlib.Core.Path.{_≡_, refl}
+use Prim.Native.Nat.{ℕ, _<_}
+use mathlib.Core.Path.{_≡_, refl, subst}
 use native.Mathlib.Omega.{arith}
-use mathlib.Core.Bool.{Bool, true, false}
+use lib.Dec.{lit<}
+use mathlib.Core.Bool.{Bool, true, false, cond}
 use mathlib.Core.List.{List, [], _∷_, _++_}
-pub use Rattle.fields.specs.Truth.{both, both-left, both-right, neither, neither-left, neither-right}
 use Rattle.refusals.specs.declared.Refusal.{Refusal}
 use Rattle.refusals.specs.declared.Verdict.{Verdict}
 use Rattle.refusals.specs.declared.Verdict.the-variants.{Passed, Failed}
-use Rattle.refusals.specs.Numbers.{Reason, Outcome, numberOf}
+use Rattle.refusals.specs.Numbers.{Reason, Outcome, numberOf, tooShort, magic, version, dataOffset, rsidReserved, songs, reservedBits, musPayload, noPayload, pastMemory, rsidLoad, rsidInit, freePages, musShort, musPastMemory, voiceLength, voicesPastFile, textLines, bytesAfterText, unassignedPair, valueRange, hltMisplaced, structure, hedZero, tooDeep, tooLong, memorySize, voiceNumber, listLengths, noPair, noSuchSong}
 use Rattle.refusals.specs.Numbers.Outcome.{accepted, refused}
-use Rattle.refusals.specs.Tests.{Test, pick, test, firstOf, None, guarded, tested}
+use Rattle.refusals.specs.Tests.{Test, test, firstOf, None, guarded, tested}
 
-pick-passed : (b : Bool) (n : ℕ) (v : Verdict) → pick b (Failed n) v ≡ Passed → (b ≡ false) × (v ≡ Passed)
+pick-passed : (b : Bool) (n : ℕ) (v : Verdict) → cond b (Failed n) v ≡ Passed → (b ≡ false) × (v ≡ Passed)
 pick-passed true n v e = let z : _≡_ {A = ℕ} 0 1 = cc in absurd (omega arith)
 pick-passed false n v e = (refl, e)
 
@@ -50,7 +50,7 @@ pub first-append : (ts us : List Test) → firstOf (ts ++ us) ≡ later (firstOf
 first-append [] us = refl
 first-append (t ∷ ts) us = go (t .applies) (firstOf us) (first-append ts us)
   where
-    go : (b : Bool) {v : Verdict} (w : Verdict) → v ≡ later (firstOf ts) w → pick b (Failed (numberOf (t .reason))) v ≡ later (pick b (Failed (numberOf (t .reason))) (firstOf ts)) w
+    go : (b : Bool) {v : Verdict} (w : Verdict) → v ≡ later (firstOf ts) w → cond b (Failed (numberOf (t .reason))) v ≡ later (cond b (Failed (numberOf (t .reason))) (firstOf ts)) w
     go true w e = refl
     go false w e = e
 
@@ -67,7 +67,7 @@ pub tested-first : (ts : List Test) → testedAll Passed ts ≡ firstOf ts
 tested-first [] = refl
 tested-first (t ∷ ts) = go (t .applies) (tested-first ts)
   where
-    go : (b : Bool) {v : Verdict} → testedAll Passed ts ≡ v → testedAll (pick b (Failed (numberOf (t .reason))) Passed) ts ≡ pick b (Failed (numberOf (t .reason))) v
+    go : (b : Bool) {v : Verdict} → testedAll Passed ts ≡ v → testedAll (cond b (Failed (numberOf (t .reason))) Passed) ts ≡ cond b (Failed (numberOf (t .reason))) v
     go true e = tested-failed (numberOf (t .reason)) ts
     go false e = e
 
@@ -89,3 +89,44 @@ refused-once x y e =
     let number : x .number ≡ y .number = cc in
     let place : x .place ≡ y .place = cc in
     λ i. record { number = number i; place = place i }
+
+pub number-above : (r : Reason) → 0 < numberOf r
+number-above tooShort = lit< tt
+number-above magic = lit< tt
+number-above version = lit< tt
+number-above dataOffset = lit< tt
+number-above rsidReserved = lit< tt
+number-above songs = lit< tt
+number-above reservedBits = lit< tt
+number-above musPayload = lit< tt
+number-above noPayload = lit< tt
+number-above pastMemory = lit< tt
+number-above rsidLoad = lit< tt
+number-above rsidInit = lit< tt
+number-above freePages = lit< tt
+number-above musShort = lit< tt
+number-above musPastMemory = lit< tt
+number-above voiceLength = lit< tt
+number-above voicesPastFile = lit< tt
+number-above textLines = lit< tt
+number-above bytesAfterText = lit< tt
+number-above unassignedPair = lit< tt
+number-above valueRange = lit< tt
+number-above hltMisplaced = lit< tt
+number-above structure = lit< tt
+number-above hedZero = lit< tt
+number-above tooDeep = lit< tt
+number-above tooLong = lit< tt
+number-above memorySize = lit< tt
+number-above voiceNumber = lit< tt
+number-above listLengths = lit< tt
+number-above noPair = lit< tt
+number-above noSuchSong = lit< tt
+
+pub first-above : (ts : List Test) (n : ℕ) → firstOf ts ≡ Failed n → 0 < n
+first-above [] n e = absurd (let z : _≡_ {A = ℕ} 0 1 = cc in omega arith)
+first-above (t ∷ ts) n e = go (t .applies) (λ q. first-above ts n q) e
+  where
+    go : (b : Bool) → (firstOf ts ≡ Failed n → 0 < n) → cond b (Failed (numberOf (t .reason))) (firstOf ts) ≡ Failed n → 0 < n
+    go true rest q = let is : numberOf (t .reason) ≡ n = cc in subst (λ (k : ℕ). 0 < k) is (number-above (t .reason))
+    go false rest q = rest q

@@ -1,5 +1,4 @@
 -- Document 01, 'PSID and RSID': 'Tests in this order; the first that applies answers.' So for every ordered list of tests.
--- pick       one of two, by a test
 -- Test, test a reason beside the condition under which it applies
 -- firstOf    what a list of tests comes to: the number of the first that applies
 -- None       none of a list of tests applies
@@ -7,16 +6,12 @@
 -- tested     the verdict after one more test, for code that makes its tests one by one
 use Prim.Native.Nat.{ℕ}
 use mathlib.Core.Path.{_≡_}
-use mathlib.Core.Bool.{Bool, true, false}
+use mathlib.Core.Bool.{Bool, true, false, cond}
 use mathlib.Core.List.{List, [], _∷_}
 use Rattle.refusals.specs.declared.Verdict.{Verdict}
 use Rattle.refusals.specs.declared.Verdict.the-variants.{Passed, Failed}
 use Rattle.refusals.specs.Numbers.{Reason, Outcome, numberOf}
 use Rattle.refusals.specs.Numbers.Outcome.{refused}
-
-abbrev pub pick : {A : Type 0} → Bool → A → A → A
-pick true a b = a
-pick false a b = b
 
 pub record Test : Type 0 where
   pub reason : Reason
@@ -27,7 +22,7 @@ test r b = record { reason = r; applies = b }
 
 abbrev pub firstOf : List Test → Verdict
 firstOf [] = Passed
-firstOf (t ∷ ts) = pick (t .applies) (Failed (numberOf (t .reason))) (firstOf ts)
+firstOf (t ∷ ts) = cond (t .applies) (Failed (numberOf (t .reason))) (firstOf ts)
 
 abbrev pub None : List Test → Type 0
 None [] = Unit
@@ -38,5 +33,5 @@ guarded Passed later = later
 guarded (Failed n) later = refused n 0
 
 abbrev pub tested : Verdict → Bool → ℕ → Verdict
-tested Passed b n = pick b (Failed n) Passed
+tested Passed b n = cond b (Failed n) Passed
 tested (Failed m) b n = Failed m

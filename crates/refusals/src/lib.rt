@@ -4,8 +4,6 @@ ghost use mathlib.Core.Path.{_≡_};
 ghost use Rattle.refusals.specs.Numbers.{unplaced};
 ghost use Rattle.refusals.specs.Tests.{tested};
 
-pub mod reasons;
-
 // PSID and RSID
 pub const TOO_SHORT: u32 = 1;
 

@@ -3,7 +3,7 @@
 -- cut-off   the law
 use Prim.Native.Nat.{ℕ, _+_, _-_, _<_, _≤_}
 use mathlib.Core.Path.{_≡_, refl, sym, _∙_}
-use mathlib.Core.Bool.{Bool, true, false, not, _&&_, _||_}
+use mathlib.Core.Bool.{Bool, true, false, not, _&&_, _||_, cond}
 use mathlib.Core.List.{List}
 use native.Mathlib.Omega.{arith}
 use lib.ListN.{length, take}
@@ -14,7 +14,7 @@ use Rattle.refusals.specs.Numbers.{Outcome}
 use Rattle.refusals.specs.Numbers.Outcome.{accepted}
 use Rattle.refusals.specs.declared.Verdict.{Verdict}
 use Rattle.refusals.specs.declared.Verdict.the-variants.{Passed, Failed}
-use Rattle.refusals.specs.Tests.{firstOf, pick, guarded}
+use Rattle.refusals.specs.Tests.{firstOf, guarded}
 use Rattle.refusals.specs.Laws.{later, passed-none}
 use Rattle.fields.specs.Numbers.{be16, be32}
 use Rattle.sidheader.specs.declared.Fields.{Fields}
@@ -98,7 +98,7 @@ too-long : (f : List ℕ) (x : Fields) → x .offset ≤ 124 → 65663 ≤ x .si
 unfolding payloadOf
 too-long f x o h = go (addressed x) refl
   where
-    go : (b : Bool) → addressed x ≡ b → firstOf (payloadTests x (pick b (after f x) (whole x))) ≡ Failed 10
+    go : (b : Bool) → addressed x ≡ b → firstOf (payloadTests x (cond b (after f x) (whole x))) ≡ Failed 10
     go true e = rw (e, le-ltb (x .size - x .offset) 3 (omega arith), lt-ltb 65536 (after f x .load + (x .size - (x .offset + 2))) (omega arith))
     go false e =
         let some : x .size - x .offset ≡ 0 → ⊥ = omega arith in

@@ -7,7 +7,7 @@
 -- piece-refused, piece-accepted               a part of the file
 use Prim.Native.Nat.{ℕ, _+_, _<_, _≤_}
 use mathlib.Core.Path.{_≡_, sym}
-use mathlib.Core.Bool.{Bool, true, false, _||_}
+use mathlib.Core.Bool.{Bool, true, false, _||_, cond}
 use mathlib.Core.List.{List, []}
 use native.Mathlib.Omega.{arith}
 use lib.ListN.{length, take, drop, length-take}
@@ -15,9 +15,9 @@ use lib.Dec.{ltb, eqb}
 use borrow.Author.Tests.{lt-ltb, eq-eqb, ne-eqb}
 use Rattle.refusals.specs.Numbers.Outcome.{accepted, refused}
 use Rattle.refusals.specs.declared.Verdict.the-variants.{Passed, Failed}
-use Rattle.refusals.specs.Tests.{firstOf, guarded, pick}
+use Rattle.refusals.specs.Tests.{firstOf, guarded}
 use Rattle.refusals.specs.Laws.{later, first-append}
-use Rattle.fields.specs.Parts.{put}
+use Rattle.fields.specs.Parts.{put, partOf}
 use Rattle.sidheader.specs.declared.Fields.{Fields}
 use Rattle.sidheader.specs.declared.Payload.{Payload}
 use Rattle.sidheader.specs.Fields.{fieldsOf}
@@ -30,7 +30,7 @@ use Rattle.sid.specs.Header.{headerOf}
 use Rattle.sid.specs.Answers.{sidOutcome, passing, testedOutcome}
 use Rattle.sid.specs.Loading.{loadOutcome, putOutcome, memoryAfter}
 use Rattle.sid.specs.Speed.{speedBit, speedOutcome}
-use Rattle.sid.specs.Pieces.{partOf, spanOf, pieceIn}
+use Rattle.sid.specs.Pieces.{spanOf, pieceIn}
 use Rattle.sid.specs.Laws.{read-headed, accepted-fits}
 
 pub too-short : (f : List ℕ) → length f < 118 → refused 1 0 ≡ testedOutcome f
@@ -59,7 +59,7 @@ module _ (f : List ℕ) (x : Fields) (p : Payload) (ex : x ≡ fieldsOf f) (ep :
   unfolding payloadOf fieldsOf
   payload-short = rw (ep, ex) (go (addressed (fieldsOf f)))
     where
-      go : (b : Bool) → pick b (after f (fieldsOf f)) (whole (fieldsOf f)) .len ≤ length f
+      go : (b : Bool) → cond b (after f (fieldsOf f)) (whole (fieldsOf f)) .len ≤ length f
       go true = omega arith
       go false = omega arith
 

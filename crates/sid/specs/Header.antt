@@ -6,9 +6,9 @@
 -- headerOf   the header; 'effective init' and load address, the flag bits taken apart as in 003
 use Prim.Native.Nat.{ℕ, _/_, _%_}
 use mathlib.Core.List.{List}
+use mathlib.Core.Bool.{cond}
 use lib.ListN.{length, take, drop}
 use lib.Dec.{eqb}
-use Rattle.refusals.specs.Tests.{pick}
 use Rattle.fields.specs.Parts.{beforeZero}
 use Rattle.sidheader.specs.declared.Fields.{Fields}
 use Rattle.sidheader.specs.declared.Payload.{Payload}
@@ -16,14 +16,14 @@ use Rattle.sidheader.specs.Fields.{rsid}
 use Rattle.sidrefusals.specs.PayloadTests.{initOf, basic}
 use Rattle.sid.specs.declared.Kind.{Kind}
 use Rattle.sid.specs.declared.Kind.the-variants.{Psid, Rsid}
-use Rattle.sid.specs.declared.Span.{Span}
+use Rattle.fields.specs.declared.Span.{Span}
 use Rattle.sid.specs.declared.Header.{Header}
 
 abbrev pub kindOf : ℕ → Kind
-kindOf magic = pick (eqb magic rsid) Rsid Psid
+kindOf magic = cond (eqb magic rsid) Rsid Psid
 
 abbrev pub startOf : ℕ → ℕ
-startOf start = pick (eqb start 0) 1 start
+startOf start = cond (eqb start 0) 1 start
 
 abbrev pub textAt : List ℕ → ℕ → List ℕ
 textAt f at = beforeZero (take 31 (drop at f))

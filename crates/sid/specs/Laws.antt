@@ -11,7 +11,7 @@
 -- memory-length                  loading never changes how many cells there are
 use Prim.Native.Nat.{ℕ, _+_, _-_, _≤_}
 use mathlib.Core.Path.{_≡_, refl, sym, subst, _∙_, ap}
-use mathlib.Core.Bool.{Bool, true, false, not}
+use mathlib.Core.Bool.{Bool, true, false, not, cond}
 use mathlib.Core.List.{List, [], _∷_}
 use native.Mathlib.Omega.{arith}
 use lib.ListN.{length, take, drop, length-take, length-drop}
@@ -23,9 +23,9 @@ use Rattle.refusals.specs.Numbers.Outcome.{accepted, refused}
 use Rattle.refusals.specs.Numbers.Reason.{memorySize}
 use Rattle.refusals.specs.declared.Verdict.{Verdict}
 use Rattle.refusals.specs.declared.Verdict.the-variants.{Passed, Failed}
-use Rattle.refusals.specs.Tests.{None, test, firstOf, guarded, pick}
+use Rattle.refusals.specs.Tests.{None, test, firstOf, guarded}
 use Rattle.refusals.specs.Laws.{passed-none, none-passed, none-append, guarded-accepted, refused-once}
-use Rattle.fields.specs.Parts.{beforeZero, put}
+use Rattle.fields.specs.Parts.{beforeZero, put, partOf}
 use Rattle.fields.specs.Laws.{take-before, length-before, length-put}
 use Rattle.sidheader.specs.Fields.{fieldsOf}
 use Rattle.sidheader.specs.Payload.{addressed, after, whole, payloadOf}
@@ -36,7 +36,6 @@ use Rattle.sid.specs.Header.{headerOf, textAt, spanAt}
 use Rattle.sid.specs.declared.Reading.{Reading}
 use Rattle.sid.specs.declared.Reading.the-variants.{Accepted, Refused}
 use Rattle.sid.specs.Answers.{told, sidOutcome, Passing, passing, testedOutcome, headed}
-use Rattle.sid.specs.Pieces.{partOf}
 use Rattle.sid.specs.Loading.{loadOutcome, putOutcome, filled, memoryAfter}
 
 pub told-once : (a b : Reading) → told a ≡ told b → a ≡ b
@@ -90,7 +89,7 @@ payload-whole f = go (addressed (fieldsOf f))
     size : (from : ℕ) → length (take (length f - from) (drop from f)) ≡ length f - from
     size from = simp (length-take, length-drop) (omega arith)
 
-    go : (b : Bool) → length (take (pick b (after f (fieldsOf f)) (whole (fieldsOf f)) .len) (drop (pick b (after f (fieldsOf f)) (whole (fieldsOf f)) .from) f)) ≡ pick b (after f (fieldsOf f)) (whole (fieldsOf f)) .len
+    go : (b : Bool) → length (take (cond b (after f (fieldsOf f)) (whole (fieldsOf f)) .len) (drop (cond b (after f (fieldsOf f)) (whole (fieldsOf f)) .from) f)) ≡ cond b (after f (fieldsOf f)) (whole (fieldsOf f)) .len
     go true = size (fieldsOf f .offset + 2)
     go false = size (fieldsOf f .offset)
 

@@ -12,10 +12,9 @@ use Rattle.refusals.specs.Numbers.{Outcome}
 use Rattle.refusals.specs.Numbers.Outcome.{accepted, refused}
 use Rattle.refusals.specs.Numbers.Reason.{memorySize}
 use Rattle.refusals.specs.Tests.{test, firstOf, guarded}
-use Rattle.fields.specs.Parts.{put}
+use Rattle.fields.specs.Parts.{put, partOf}
 use Rattle.sid.specs.declared.Header.{Header}
 use Rattle.sid.specs.Answers.{sidOutcome, Passing, testedOutcome}
-use Rattle.sid.specs.Pieces.{partOf}
 
 unfoldable pub loadOutcome : List ℕ → ℕ → Outcome Header
 loadOutcome f cells = guarded (firstOf (test memorySize (not (eqb cells 65536)) ∷ [])) (sidOutcome f)

@@ -1,21 +1,17 @@
 -- Document 01, 'PSID and RSID': 'title, author, released text and payload are each a part of the lent bytes'.
--- partOf                the part of a file that a span names; of it what lies in the file
 -- spanOf                a header's span by the part's name
 -- pieceOf               such a part, after the reading of its file
 -- pieceIn, titleIn, ..  such a part of an accepted file; of a refused file nothing (docs/DECISIONS.md)
 use Prim.Native.Nat.{ℕ}
 use mathlib.Core.List.{List, []}
-use lib.ListN.{take, drop}
+use Rattle.fields.specs.Parts.{partOf}
 use Rattle.refusals.specs.Numbers.{Outcome}
 use Rattle.refusals.specs.Numbers.Outcome.{accepted, refused}
-use Rattle.sid.specs.declared.Span.{Span}
+use Rattle.fields.specs.declared.Span.{Span}
 use Rattle.sid.specs.declared.Header.{Header}
 use Rattle.sid.specs.declared.Piece.{Piece}
 use Rattle.sid.specs.declared.Piece.the-variants.{Title, Author, Released, Payload}
 use Rattle.sid.specs.Answers.{sidOutcome}
-
-abbrev pub partOf : List ℕ → Span → List ℕ
-partOf f s = take (s .len) (drop (s .from) f)
 
 abbrev pub spanOf : Header → Piece → Span
 spanOf h Title = h .title

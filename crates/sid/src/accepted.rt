@@ -3,7 +3,7 @@ ghost use mathlib.Core.Path.{_≡_};
 ghost use Rattle.sid.specs.Header.{kindOf, startOf, spanAt, headerOf};
 use crate::Header;
 use crate::Kind;
-use crate::Span;
+use fields::Span;
 use sidheader::Fields;
 use sidheader::Payload;
 

@@ -5,7 +5,9 @@ ghost use lib.ListN.{length};
 ghost use Rattle.sid.specs.Answers.{told, sidOutcome, toldTested, testedOutcome};
 ghost use Rattle.sid.specs.Loading.{loadOutcome, putOutcome, memoryAfter};
 ghost use Rattle.sid.specs.Speed.{toldSpeed, speedOutcome};
-ghost use Rattle.sid.specs.Pieces.{partOf, titleIn, authorIn, releasedIn, payloadIn};
+ghost use Rattle.fields.specs.Parts.{partOf};
+ghost use Rattle.sid.specs.Pieces.{titleIn, authorIn, releasedIn, payloadIn};
+use fields::Span;
 use refusals::Refusal;
 use refusals::Verdict;
 use sidheader::Fields;
@@ -21,12 +23,6 @@ const SHORTEST: usize = 118;
 pub enum Kind {
     Psid,
     Rsid,
-}
-
-// A part of the file: its first byte and how many.
-pub struct Span {
-    pub from: usize,
-    pub len: usize,
 }
 
 // The parts of a file that are shown, by name.
@@ -171,9 +167,7 @@ pub fn speed_of_song(file: &[u8], song: u64) -> SongSpeed
 pub fn part(file: &[u8], span: Span) -> &[u8]
     ensures { λ r. ⌜ now r ≡ partOf (now (file .entry)) span ⌝ }
 {
-    let from = span.from;
-    let len = span.len;
-    fields::part(file, from, len)
+    fields::span_part(file, span)
 }
 
 // The title of an accepted file; of a refused file nothing.

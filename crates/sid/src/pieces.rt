@@ -4,7 +4,7 @@ ghost use Rattle.sid.specs.Pieces.{spanOf, pieceIn};
 use crate::Header;
 use crate::Piece;
 use crate::Reading;
-use crate::Span;
+use fields::Span;
 
 // Where the header says that a part lies.
 fn span_of(h: Header, piece: Piece) -> Span

@@ -4,9 +4,9 @@
 -- fieldsOf   the fields of a file
 use Prim.Native.Nat.{ℕ}
 use mathlib.Core.List.{List}
+use mathlib.Core.Bool.{cond}
 use lib.ListN.{length, getD}
 use lib.Dec.{eqb}
-use Rattle.refusals.specs.Tests.{pick}
 use Rattle.fields.specs.Numbers.{be16, be32}
 use Rattle.sidheader.specs.declared.Fields.{Fields}
 
@@ -17,7 +17,7 @@ abbrev pub rsid : ℕ
 rsid = 0x52534944
 
 abbrev pub added : ℕ → ℕ → ℕ
-added version field = pick (eqb version 1) 0 field
+added version field = cond (eqb version 1) 0 field
 
 unfoldable pub fieldsOf : List ℕ → Fields
 fieldsOf f =

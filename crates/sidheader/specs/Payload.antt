@@ -5,10 +5,9 @@
 -- whole       the payload that is the data whole
 -- payloadOf   the payload's address, and its first byte and length in the file
 use Prim.Native.Nat.{ℕ, _+_, _-_}
-use mathlib.Core.Bool.{Bool}
+use mathlib.Core.Bool.{Bool, cond}
 use mathlib.Core.List.{List}
 use lib.Dec.{eqb}
-use Rattle.refusals.specs.Tests.{pick}
 use Rattle.fields.specs.Numbers.{le16}
 use Rattle.sidheader.specs.declared.Fields.{Fields}
 use Rattle.sidheader.specs.declared.Payload.{Payload}
@@ -23,4 +22,4 @@ abbrev pub whole : Fields → Payload
 whole x = record { load = x .load; from = x .offset; len = x .size - x .offset }
 
 unfoldable pub payloadOf : List ℕ → Fields → Payload
-payloadOf f x = pick (addressed x) (after f x) (whole x)
+payloadOf f x = cond (addressed x) (after f x) (whole x)

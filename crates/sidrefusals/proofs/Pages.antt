@@ -10,9 +10,9 @@ use mathlib.Core.Bool.{Bool, true, false, not, _&&_, _||_, false≢true, or-true
 use native.Mathlib.Omega.{arith}
 use lib.Dec.{ltb, leb, eqb}
 use borrow.Author.Tests.{ltb-true, leb-true, eqb-true, eqb-false, not-true, lt-ltb, le-leb, ne-eqb}
+use Rattle.logic.specs.Truth.{both-left, both-right}
 use Rattle.sidheader.specs.declared.Payload.{Payload}
 use Rattle.sidrefusals.specs.Pages.{anyPage, between, touched, reservedPage}
-use Rattle.refusals.specs.Laws.{both-left, both-right}
 use Rattle.sidrefusals.proofs.Tests.{same, both}
 
 -- a page of the count from start on that passes t

@@ -6,11 +6,11 @@
 -- payloadTests   the tests
 -- sidTests       1 to 13 of a file, whole
 use Prim.Native.Nat.{ℕ, _+_, _-_, _/_, _%_}
-use mathlib.Core.Bool.{Bool, not, _&&_, _||_}
+use mathlib.Core.Bool.{Bool, not, _&&_, _||_, cond}
 use mathlib.Core.List.{List, [], _∷_, _++_}
 use lib.Dec.{ltb, eqb}
 use Rattle.refusals.specs.Numbers.Reason.{noPayload, pastMemory, rsidLoad, rsidInit, freePages}
-use Rattle.refusals.specs.Tests.{Test, test, pick}
+use Rattle.refusals.specs.Tests.{Test, test}
 use Rattle.sidheader.specs.declared.Fields.{Fields}
 use Rattle.sidheader.specs.declared.Payload.{Payload}
 use Rattle.sidheader.specs.Fields.{fieldsOf}
@@ -22,7 +22,7 @@ abbrev pub dataBytes : Fields → ℕ
 dataBytes x = x .size - x .offset
 
 unfoldable pub initOf : Fields → Payload → ℕ
-initOf x p = pick (eqb (x .init) 0) (p .load) (x .init)
+initOf x p = cond (eqb (x .init) 0) (p .load) (x .init)
 
 unfoldable pub barredInit : ℕ → Bool
 barredInit address = ltb address 0x07E8 || between 0xA000 0xBFFF address || between 0xD000 0xFFFF address

@@ -1,5 +1,6 @@
 // Runs the hand-made files of data/ through read, load and speed_of_song, and shows every answer. tools/sidvectors makes the
 // files and says what each must give.
+use fields::Span;
 use files::Loaded;
 use libc::STDOUT_FILENO;
 use refusals::Refusal;
@@ -8,7 +9,6 @@ use sid::Kind;
 use sid::Piece;
 use sid::Reading;
 use sid::SongSpeed;
-use sid::Span;
 
 // What a cell of memory holds before a load; no payload has this byte.
 const EMPTY: u8 = 0xA5;

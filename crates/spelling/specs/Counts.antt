@@ -9,14 +9,13 @@
 -- joined            'the first byte's bits stand above the second byte'
 -- tempo             'TEM 0 means 256'
 use Prim.Native.Nat.{ℕ, _+_, _*_, _-_, _/_, _%_}
-use mathlib.Core.Bool.{Bool, true, false, _&&_, _||_}
+use mathlib.Core.Bool.{Bool, true, false, _&&_, _||_, cond}
 use lib.Dec.{eqb, leb, ltb}
 use Rattle.meaning.specs.declared.Bump.{Bump}
 use Rattle.meaning.specs.declared.Bump.the-variants.{Up, Down}
 use Rattle.meaning.specs.Answers.{Bytes}
 use Rattle.refusals.specs.Numbers.{Outcome, numberOf, noPair}
 use Rattle.refusals.specs.Numbers.Outcome.{accepted, refused}
-use Rattle.refusals.specs.Tests.{pick}
 
 abbrev pub pair : ℕ → ℕ → Outcome Bytes
 pair a b = accepted (record { first = a; second = b })
@@ -37,24 +36,24 @@ onlyYes true on = pair 1 on
 onlyYes false on = noBytes
 
 abbrev pub counted : ℕ → ℕ → ℕ → ℕ → Outcome Bytes
-counted v most base step = pick (leb v most) (pair 1 (base + step * v)) noBytes
+counted v most base step = cond (leb v most) (pair 1 (base + step * v)) noBytes
 
 abbrev pub phrase : ℕ → ℕ → ℕ → Outcome Bytes
 phrase v low high =
-    pick (leb v 15) (pair 1 (low + 16 * v)) (pick (leb 17 v && leb v 23) (pair 1 (high + 16 * (v - 16))) noBytes)
+    cond (leb v 15) (pair 1 (low + 16 * v)) (cond (leb 17 v && leb v 23) (pair 1 (high + 16 * (v - 16))) noBytes)
 
 abbrev pub destination : ℕ → Outcome Bytes
 destination v =
-    pick (eqb v 0) (pair 1 0x8F)
-    (pick (eqb v 1) (pair 1 0xAF)
-    (pick (eqb v 2) (pair 1 0xDF)
-    (pick (eqb v 3) (pair 1 0xEF) noBytes)))
+    cond (eqb v 0) (pair 1 0x8F)
+    (cond (eqb v 1) (pair 1 0xAF)
+    (cond (eqb v 2) (pair 1 0xDF)
+    (cond (eqb v 3) (pair 1 0xEF) noBytes)))
 
 abbrev pub alone : ℕ → ℕ → ℕ → Outcome Bytes
-alone first v most = pick (leb v most) (pair first v) noBytes
+alone first v most = cond (leb v most) (pair first v) noBytes
 
 abbrev pub joined : ℕ → ℕ → ℕ → ℕ → Outcome Bytes
-joined v most base step = pick (leb v most) (pair (base + step * (v / 256)) (v % 256)) noBytes
+joined v most base step = cond (leb v most) (pair (base + step * (v / 256)) (v % 256)) noBytes
 
 abbrev pub tempo : ℕ → Outcome Bytes
-tempo v = pick (eqb v 0 || ltb 256 v) noBytes (pair 0x06 (v % 256))
+tempo v = cond (eqb v 0 || ltb 256 v) noBytes (pair 0x06 (v % 256))

@@ -6,6 +6,7 @@
 -- tpsOf, tps   'TPS by 004', zero 0E
 -- rtpOf, rtp   'RTP with octaves and remainder of one sign, zero 5B'
 use Prim.Native.Nat.{ℕ, _+_, _*_, _-_, _/_, _%_}
+use mathlib.Core.Bool.{cond}
 use lib.Dec.{leb, ltb}
 use lib.IntN.{ℤ}
 use Rattle.signed.specs.declared.Parts.{Parts}
@@ -15,13 +16,12 @@ use Rattle.spelling.specs.declared.signs.Slot.{Slot}
 use Rattle.spelling.specs.declared.signs.Slot.the-variants.{In, Out}
 use Rattle.spelling.specs.Counts.{pair, noBytes, alone, joined}
 use Rattle.refusals.specs.Numbers.{Outcome}
-use Rattle.refusals.specs.Tests.{pick}
 
 abbrev pub slotOf : Parts → ℕ → ℕ → ℕ → Slot
 slotOf p below above whole =
-    pick (p .negative)
-    (pick (leb (p .size) below) (In (whole - p .size)) Out)
-    (pick (leb (p .size) above) (In (p .size)) Out)
+    cond (p .negative)
+    (cond (leb (p .size) below) (In (whole - p .size)) Out)
+    (cond (leb (p .size) above) (In (p .size)) Out)
 
 abbrev pub ofSlot : (ℕ → Outcome Bytes) → Slot → Outcome Bytes
 ofSlot f (In n) = f n
@@ -35,17 +35,17 @@ jif v = ofSlot (λ n. joined n 1023 0x3E 64) (slotOf (partsOf v) 200 757 1024)
 
 abbrev pub dtnOf : Parts → Outcome Bytes
 dtnOf p =
-    pick (p .negative)
-    (pick (leb (p .size) 2048) (joined (2048 - p .size) 2047 0x1A 32) noBytes)
-    (pick (leb (p .size) 2047) (joined (p .size) 2047 0x0A 32) noBytes)
+    cond (p .negative)
+    (cond (leb (p .size) 2048) (joined (2048 - p .size) 2047 0x1A 32) noBytes)
+    (cond (leb (p .size) 2047) (joined (p .size) 2047 0x0A 32) noBytes)
 
 abbrev pub dtn : ℤ → Outcome Bytes
 dtn v = dtnOf (partsOf v)
 
 abbrev pub tpsOf : Parts → Outcome Bytes
 tpsOf p =
-    pick (ltb 95 (p .size)) noBytes
-    (pick (p .negative)
+    cond (ltb 95 (p .size)) noBytes
+    (cond (p .negative)
     (pair 0xA6 (16 * (11 - p .size % 12) + 2 * (p .size / 12) + 1))
     (pair 0xA6 (16 * (p .size % 12) + 2 * (7 - p .size / 12))))
 
@@ -54,8 +54,8 @@ tps v = tpsOf (partsOf v)
 
 abbrev pub rtpOf : Parts → Outcome Bytes
 rtpOf p =
-    pick (ltb 47 (p .size)) noBytes
-    (pick (p .negative)
+    cond (ltb 47 (p .size)) noBytes
+    (cond (p .negative)
     (pair 0x2E (8 * (11 - p .size % 12) + 3 + p .size / 12))
     (pair 0x2E (8 * (11 + p .size % 12) + 3 - p .size / 12)))
 

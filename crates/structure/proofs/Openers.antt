@@ -3,14 +3,13 @@
 -- event-on, hed-off, hed-on, tal-off, tal-on, def-off, def-on, end-off, end-on, cal-off, cal-on, hlt-off, hlt-on   each step of the code
 use Prim.Native.Nat.{ℕ, zero, suc, _+_, _-_, _<_, _≤_}
 use mathlib.Core.Path.{_≡_, refl, sym}
-use mathlib.Core.Bool.{Bool, true, false, not, _&&_, _||_}
+use mathlib.Core.Bool.{Bool, true, false, not, _&&_, _||_, cond}
 use mathlib.Core.List.{List, [], _∷_}
 use native.Mathlib.Numerals.{add-one, sub-one}
 use native.Mathlib.Omega.{arith}
 use lib.Dec.{eqb}
 use borrow.Author.Tests.{eq-eqb, ne-eqb, eqb-true, eqb-false, not-false}
-use Rattle.refusals.specs.Tests.{pick}
-use Rattle.refusals.specs.Laws.{neither}
+use Rattle.logic.specs.Truth.{neither}
 use Rattle.kind.specs.declared.Kind.the-variants.{Event, Hed, Tal, Def, End, Cal, Hlt, Bad}
 use Rattle.structure.specs.declared.nesting.Open.{Open}
 use Rattle.structure.specs.declared.nesting.Step.{Step}
@@ -23,7 +22,7 @@ some-left n = ne-eqb (suc n) 0 (λ e. absurd (omega arith))
 
 module _ (k : ℕ) (os : List Opener) where
   abbrev tail : Bool → List Opener
-  tail t = pick t [] (byDef k ∷ os)
+  tail t = cond t [] (byDef k ∷ os)
 
   hed-heds : (n : ℕ) (t : Bool) → lastHed (heds n (tail t)) ≡ not (eqb n 0)
   unfolding heds
@@ -98,7 +97,7 @@ module _ (o : Open) where
   tal-on q = (
     rw (last-hed, ne-eqb (o .inside) 0 q),
     record {
-      opens = go (o .inside) q (pick (eqb (o .phrase) 24) [] (byDef (o .phrase) ∷ heds (o .outside) []));
+      opens = go (o .inside) q (cond (eqb (o .phrase) 24) [] (byDef (o .phrase) ∷ heds (o .outside) []));
       few = λ m f. record { inside = omega (arith, f .inside); outside = omega (arith, f .outside); phrase = f .phrase };
     },
     λ f. refl,

@@ -5,10 +5,10 @@ use mathlib.Core.Path.{_≡_, refl, sym, _∙_, subst}
 use mathlib.Core.Bool.{Bool, true, false}
 use mathlib.Core.List.{List, [], _∷_}
 use borrow.Author.Tests.{not-false}
+use Rattle.logic.specs.Truth.{neither}
 use Rattle.meaning.specs.declared.Meaning.{Meaning}
 use Rattle.refusals.specs.Numbers.{Outcome}
 use Rattle.refusals.specs.Tests.{None}
-use Rattle.refusals.specs.Laws.{neither}
 use Rattle.kind.specs.declared.Kind.{Kind}
 use Rattle.kind.specs.declared.Kind.the-variants.{Event, Hed, Tal, Def, End, Cal, Hlt, Bad}
 use Rattle.kind.specs.Kinds.{kindOf}

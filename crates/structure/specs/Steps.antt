@@ -8,10 +8,10 @@
 -- Stepped     what a step says: 30 and 31 pass and what is open and closed behind the pair, or which of them applies
 use Prim.Native.Nat.{ℕ, zero, suc, _+_, _<_, _≤_}
 use mathlib.Core.Path.{_≡_}
-use mathlib.Core.Bool.{Bool}
+use mathlib.Core.Bool.{Bool, cond}
 use mathlib.Core.List.{List, [], _∷_}
 use lib.Dec.{eqb}
-use Rattle.refusals.specs.Tests.{firstOf, pick}
+use Rattle.refusals.specs.Tests.{firstOf}
 use Rattle.refusals.specs.declared.Verdict.the-variants.{Passed, Failed}
 use Rattle.kind.specs.declared.Kind.{Kind}
 use Rattle.kind.specs.declared.Kind.the-variants.{Event, Hed, Tal, Def, End, Cal, Hlt, Bad}
@@ -26,7 +26,7 @@ heds zero os = os
 heds (suc n) os = byHed ∷ heds n os
 
 unfoldable pub openersOf : Open → List Opener
-openersOf o = heds (o .inside) (pick (eqb (o .phrase) 24) [] (byDef (o .phrase) ∷ heds (o .outside) []))
+openersOf o = heds (o .inside) (cond (eqb (o .phrase) 24) [] (byDef (o .phrase) ∷ heds (o .outside) []))
 
 abbrev pub known : Open → Bool → Nesting
 known o closed = record { openers = openersOf o; closed = λ k. closed }

@@ -14,11 +14,11 @@
 -- after             what is open and closed behind a pair
 -- start             what is open and closed before the first pair: nothing
 use Prim.Native.Nat.{ℕ}
-use mathlib.Core.Bool.{Bool, true, false, not, _||_}
+use mathlib.Core.Bool.{Bool, true, false, not, _||_, cond}
 use mathlib.Core.List.{List, [], _∷_}
 use lib.Dec.{eqb}
 use Rattle.refusals.specs.Numbers.{numberOf, unassignedPair, valueRange, hltMisplaced, structure, hedZero}
-use Rattle.refusals.specs.Tests.{Test, test, pick}
+use Rattle.refusals.specs.Tests.{Test, test}
 use Rattle.kind.specs.declared.Kind.{Kind}
 use Rattle.kind.specs.declared.Kind.the-variants.{Event, Hed, Tal, Def, End, Cal, Hlt, Bad}
 use Rattle.bodies.specs.Order.{also, noneClosed}
@@ -44,7 +44,7 @@ isHlt Hlt = true
 isHlt (Bad n) = false
 
 abbrev pub misplacedHlt : Kind → Bool → Bool
-misplacedHlt z last = pick (isHlt z) (not last) last
+misplacedHlt z last = cond (isHlt z) (not last) last
 
 abbrev pub pairTests : Kind → Bool → List Test
 pairTests z last =

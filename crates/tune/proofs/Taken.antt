@@ -46,11 +46,11 @@ use denote.Triple.Walked.{says, Stays, stay-none, walkOf, goes-none, Walks, ends
 use denote.Exit.{yes}
 use denote.Triple.Clauses.{Clauses, Lasts, AtExit, atExit, ensured, closing}
 use denote.Triple.Weaken.{walk-weaken}
-use Rattle.sid.specs.Pieces.{partOf}
+use Rattle.fields.specs.Parts.{partOf}
 use Rattle.sid.specs.declared.Piece.{Piece}
 use Rattle.sid.specs.declared.Piece.the-variants.{Title, Author, Released, Payload}
-use Rattle.sid.proofs.Span as Sp
-use Rattle.sid.proofs.Span.Laws as Sp′
+use Rattle.fields.proofs.Span as Sp
+use Rattle.fields.proofs.Span.Laws as Sp′
 use Rattle.sid.proofs.part as part
 use Rattle.sid.proofs.part.Symbol as part-def
 use Rattle.sid.proofs.part.Symbol.{name as #sid·part}

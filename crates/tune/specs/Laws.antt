@@ -12,14 +12,15 @@ use mathlib.Core.List.{List}
 use denote.Ref.{RefT, now}
 use lib.ListN.{length, drop, getD, length-take, length-drop}
 use lib.Seq.{getD-take, getD-drop}
+use Rattle.fields.specs.Parts.{partOf}
 use Rattle.refusals.specs.Numbers.Outcome.{accepted}
-use Rattle.sid.specs.declared.Span.{Span}
+use Rattle.fields.specs.declared.Span.{Span}
 use Rattle.sid.specs.declared.Header.{Header}
 use Rattle.sid.specs.declared.Piece.{Piece}
 use Rattle.sid.specs.declared.Piece.the-variants.{Title, Author, Released, Payload}
 use Rattle.sid.specs.Header.{textAt, headerOf}
 use Rattle.sid.specs.Answers.{sidOutcome}
-use Rattle.sid.specs.Pieces.{partOf, spanOf, pieceIn}
+use Rattle.sid.specs.Pieces.{spanOf, pieceIn}
 use Rattle.sid.specs.Laws.{accepted-header, text-part, payload-whole}
 use Rattle.tune.specs.Tune.{tuneOf, placeIn}
 

@@ -4,7 +4,7 @@
 use Prim.Native.Nat.{ℕ}
 use mathlib.Core.List.{List}
 use denote.Ref.{RefT}
-use Rattle.sid.specs.declared.Span.{Span}
+use Rattle.fields.specs.declared.Span.{Span}
 use Rattle.sid.specs.declared.Header.{Header}
 use Rattle.sid.specs.declared.Piece.{Piece}
 use Rattle.sid.specs.declared.Piece.the-variants.{Title, Author, Released, Payload}

@@ -2,11 +2,12 @@
 // struct holds a reference, so the functions over it are few and thin: each takes it apart and leaves the work to `sid`.
 // `shown` has plain parameters: who calls it meets no such struct.
 ghost use mathlib.Core.Path.{_≡_};
-ghost use Rattle.sid.specs.Pieces.{partOf, spanOf};
+ghost use Rattle.fields.specs.Parts.{partOf};
+ghost use Rattle.sid.specs.Pieces.{spanOf};
 ghost use Rattle.tune.specs.Tune.{tuneOf};
+use fields::Span;
 use sid::Header;
 use sid::Piece;
-use sid::Span;
 
 // The file as it was lent, and where its parts lie. It may be made by hand: a part has of its place the bytes in the file.
 pub struct Tune<'a> {

@@ -1,8 +1,8 @@
 -- `mus::text_line` meets its contract.
 use borrow.Author.Needs.{needs}
 use mathlib.Core.Path.{sym, ap, _∙_}
+use Rattle.fields.specs.Parts.{partOf}
 use Rattle.refusals.specs.Numbers.{Outcome}
-use Rattle.container.specs.Laws.{partOf}
 use Rattle.mus.specs.declared.Song.{Song}
 use Rattle.mus.specs.Song.{told}
 use Rattle.mus.specs.Text.{lineOf, textLine}

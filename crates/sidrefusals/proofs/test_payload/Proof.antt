@@ -1,7 +1,8 @@
 -- `test_payload` meets its contract: the branch taken is at the first test that applies. Assumes nothing.
 use mathlib.Core.Path.{_≡_}
+use mathlib.Core.Bool.{cond}
 use borrow.Author.Needs.{needs}
-use Rattle.refusals.specs.Tests.{firstOf, pick}
+use Rattle.refusals.specs.Tests.{firstOf}
 use Rattle.refusals.specs.declared.Verdict.the-variants.{Passed, Failed}
 use Rattle.sidrefusals.specs.Pages.{badPages}
 use Rattle.sidrefusals.specs.PayloadTests.{payloadTests}
@@ -67,7 +68,7 @@ returns-4 c =
     )
 
 -- what is left where the pages are looked at: the last test
-before-pages : (d : tie.After-has-bad-pages) → (let a = d .before .before .before .before .before .before .before .before .before .before .before .before .before .before .args in firstOf (payloadTests (a .x) (a .p)) ≡ pick (badPages (a .x) (a .p)) (Failed 13) Passed)
+before-pages : (d : tie.After-has-bad-pages) → (let a = d .before .before .before .before .before .before .before .before .before .before .before .before .before .before .args in firstOf (payloadTests (a .x) (a .p)) ≡ cond (badPages (a .x) (a .p)) (Failed 13) Passed)
 before-pages d =
     rw (
       no-payload (d .before .before .before .before .before .before .before .before .before .before .before .before .before .before .args .x),

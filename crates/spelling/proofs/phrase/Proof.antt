@@ -1,8 +1,8 @@
 use native.Mathlib.Omega.{arith}
 use lib.Dec.{leb}
 use borrow.Author.Tests.{le-leb, lt-leb, leb-true}
-use Rattle.refusals.specs.Laws.{both-right}
 use borrow.Author.Needs.{needs}
+use Rattle.logic.specs.Truth.{both-right}
 use Rattle.spelling.proofs.phrase.Statement.{statement}
 use Rattle.spelling.proofs.phrase.Tie as tie
 

@@ -36,8 +36,8 @@ use denote.Exit.{yes}
 use Rattle.sid.specs.declared.Header.{Header}
 use Rattle.sid.proofs.Header as Hd
 use Rattle.sid.proofs.Header.Laws as Hd′
-use Rattle.sid.proofs.Span as Sp
-use Rattle.sid.proofs.Span.Laws as Sp′
+use Rattle.fields.proofs.Span as Sp
+use Rattle.fields.proofs.Span.Laws as Sp′
 use Rattle.tune.specs.Tune.{tuneOf}
 use Rattle.tune.specs.declared.Tune.{Tune}
 use Rattle.tune.proofs.Tune as T

@@ -42,7 +42,8 @@ use denote.Triple.Table.{cited}
 use denote.Triple.Walked.{says, Stays, stay-none, stay-none-slice, walkOf, goes-none, goes-none-slice, Walks, ends-at, walked}
 use denote.Exit.{yes}
 use denote.Triple.Clauses.{ensured}
-use Rattle.sid.specs.Pieces.{partOf, spanOf}
+use Rattle.fields.specs.Parts.{partOf}
+use Rattle.sid.specs.Pieces.{spanOf}
 use Rattle.sid.specs.declared.Header.{Header}
 use Rattle.sid.specs.declared.Piece.{Piece}
 use Rattle.sid.specs.declared.Piece.the-variants.{Title, Author, Released, Payload}

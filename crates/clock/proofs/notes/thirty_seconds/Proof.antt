@@ -4,7 +4,7 @@ use mathlib.Core.Bool.{not, _||_}
 use borrow.Author.Needs.{needs}
 use borrow.Author.Tests.{lt-ltb}
 use lib.Dec.{eqb, ltb, eqb→eq}
-use Rattle.meaning.specs.Every.{every-at, implied}
+use Rattle.logic.specs.Every.{every-at, implied}
 use Rattle.clock.specs.Shares.{thirtySeconds}
 use Rattle.clock.proofs.notes.thirty_seconds.Statement.{statement}
 use Rattle.clock.proofs.notes.thirty_seconds.Tie as tie

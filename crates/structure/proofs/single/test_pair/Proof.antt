@@ -1,7 +1,7 @@
 -- `structure::single::test_pair` meets its contract.
 use borrow.Author.Needs.{needs}
 use lib.Dec.{eqb}
-use Rattle.refusals.specs.Laws.{neither}
+use Rattle.logic.specs.Truth.{neither}
 use Rattle.structure.proofs.Singles.{bad-either}
 use Rattle.structure.proofs.single.test_pair.Statement.{statement}
 use Rattle.structure.proofs.single.test_pair.Tie as tie

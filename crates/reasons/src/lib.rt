@@ -3,7 +3,7 @@ ghost use mathlib.Core.Path.{_≡_};
 ghost use Prim.Native.Nat.{min};
 ghost use lib.ListN.{length};
 ghost use Rattle.fields.specs.Parts.{front};
-ghost use Rattle.refusals.specs.Reasons.{phraseAt};
+ghost use Rattle.reasons.specs.Phrases.{phraseAt};
 
 // A text into the first cells of a list, as much of it as fits; how many cells.
 fn put(text: &[u8], out: &mut [u8]) -> usize

@@ -1,9 +1,9 @@
 -- Every line of the table has its phrase by its number.
 -- phrase-at   the law
 use mathlib.Core.Path.{_≡_, refl}
 use Rattle.refusals.specs.Numbers.{Reason, numberOf}
 use Rattle.refusals.specs.Numbers.Reason.{tooShort, magic, version, dataOffset, rsidReserved, songs, reservedBits, musPayload, noPayload, pastMemory, rsidLoad, rsidInit, freePages, musShort, musPastMemory, voiceLength, voicesPastFile, textLines, bytesAfterText, unassignedPair, valueRange, hltMisplaced, structure, hedZero, tooDeep, tooLong, memorySize, voiceNumber, listLengths, noPair, noSuchSong}
-use Rattle.refusals.specs.Reasons.{phraseOf, byteText, phraseAt}
+use Rattle.reasons.specs.Phrases.{phraseOf, byteText, phraseAt}
 
 pub phrase-at : (r : Reason) → phraseAt (numberOf r) ≡ byteText (phraseOf r)
 phrase-at tooShort = refl

@@ -10,9 +10,9 @@ use lib.Dec.{ltb}
 use lib.ListN.{getD}
 use borrow.Author.Tests.{ne-eqb, ltb-true}
 use Rattle.fields.specs.Entries.{entryAt, joined, entry-joined}
 use Rattle.refusals.specs.Numbers.{Reason, numberOf}
-use Rattle.refusals.specs.Laws.{both}
-use Rattle.refusals.specs.Reasons.{table, found, phraseAt}
+use Rattle.logic.specs.Truth.{both}
+use Rattle.reasons.specs.Phrases.{table, found, phraseAt}
 
 -- every line of the table has a number below this one
 abbrev bound : ℕ

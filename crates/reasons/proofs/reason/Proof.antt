@@ -1,9 +1,9 @@
--- `refusals::reasons::reason` meets its contract: the line that has so many before it is the table's phrase.
+-- `reasons::reason` meets its contract: the line that has so many before it is the table's phrase.
 use mathlib.Core.Path.{_∙_}
 use borrow.Author.Needs.{needs}
-use Rattle.refusals.proofs.Phrases.{phrases-held}
-use Rattle.refusals.proofs.reasons.reason.Statement.{statement}
-use Rattle.refusals.proofs.reasons.reason.Tie as tie
+use Rattle.reasons.proofs.Lines.{phrases-held}
+use Rattle.reasons.proofs.reason.Statement.{statement}
+use Rattle.reasons.proofs.reason.Tie as tie
 
 returns : tie.Need-returns
 returns c =

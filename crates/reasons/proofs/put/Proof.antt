@@ -1,13 +1,13 @@
--- `refusals::reasons::put` meets its contract.
+-- `reasons::put` meets its contract.
 use native.Mathlib.Omega.{arith}
 use mathlib.Core.Path.{ap, _∙_}
 use borrow.Author.Needs.{needs}
 use denote.Ref.{now}
 use lib.ListN.{length, length-take}
 use Rattle.fields.specs.Parts as parts
-use Rattle.refusals.proofs.Fronts.{front-cut, front-whole}
-use Rattle.refusals.proofs.reasons.put.Statement.{statement}
-use Rattle.refusals.proofs.reasons.put.Tie as tie
+use Rattle.reasons.proofs.Fronts.{front-cut, front-whole}
+use Rattle.reasons.proofs.put.Statement.{statement}
+use Rattle.reasons.proofs.put.Tie as tie
 
 copy-to-requires : tie.Need-copy-to-requires
 copy-to-requires c κs =

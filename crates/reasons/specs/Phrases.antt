@@ -8,10 +8,10 @@ use Prim.Native.String.{String}
 use Prim.Native.String as string
 use Prim.Native.Char.{code}
 use mathlib.Core.List.{List, [], _∷_}
+use mathlib.Core.Bool.{cond}
 use lib.Dec.{eqb}
 use Rattle.refusals.specs.Numbers.{Reason, numberOf}
 use Rattle.refusals.specs.Numbers.Reason.{tooShort, magic, version, dataOffset, rsidReserved, songs, reservedBits, musPayload, noPayload, pastMemory, rsidLoad, rsidInit, freePages, musShort, musPastMemory, voiceLength, voicesPastFile, textLines, bytesAfterText, unassignedPair, valueRange, hltMisplaced, structure, hedZero, tooDeep, tooLong, memorySize, voiceNumber, listLengths, noPair, noSuchSong}
-use Rattle.refusals.specs.Tests.{pick}
 
 abbrev pub phraseOf : Reason → String
 phraseOf tooShort = "too short for a PSID or RSID header"
@@ -87,7 +87,7 @@ byteText (string._∷_ c s) = code c ∷ byteText s
 
 abbrev pub found : List Reason → ℕ → List ℕ
 found [] n = []
-found (r ∷ rs) n = pick (eqb n (numberOf r)) (byteText (phraseOf r)) (found rs n)
+found (r ∷ rs) n = cond (eqb n (numberOf r)) (byteText (phraseOf r)) (found rs n)
 
 abbrev pub phraseAt : ℕ → List ℕ
 phraseAt n = found table n

@@ -1,0 +1,4 @@
+pub mod Cases
+pub mod Truth
+pub mod Every
+pub mod LastArm
