@@ -1,6 +1,6 @@
 /* turftangle.h: Turftangle for C and C++. Reads PSID/RSID tunes and Sidplayer MUS songs.
  *
- * Link with target/staticlib/libcapi.a, which `rt staticlib capi` makes.
+ * Link with target/staticlib/libturftangle.a, which `rt staticlib turftangle` makes.
  *
  * Lists. A list is a pointer and then its length in elements. A pointer is never NULL, not even
  * for a list of no elements. A list that is written to may not overlap with any other list of the

@@ -1,4 +1,4 @@
-//! Links the library's static archive, libcapi.a, from ../target/staticlib or from the folder that
+//! Links the library's static archive, libturftangle.a, from ../target/staticlib or from the folder that
 //! TURFTANGLE_LIB_DIR names.
 
 use std::path::PathBuf;
@@ -10,18 +10,18 @@ fn main() {
         None => PathBuf::from(env::var_os("CARGO_MANIFEST_DIR").expect("cargo sets it"))
             .join("../target/staticlib"),
     };
-    let archive = folder.join("libcapi.a");
+    let archive = folder.join("libturftangle.a");
     println!("cargo:rerun-if-env-changed=TURFTANGLE_LIB_DIR");
     println!("cargo:rerun-if-changed={}", archive.display());
     if !archive.is_file() {
         eprintln!(
             "turftangle: there is no {}.\n\
-             Run `rt staticlib capi` in the repository's top folder, \
-             or set TURFTANGLE_LIB_DIR to the folder that holds libcapi.a.",
+             Run `rt staticlib turftangle` in the repository's top folder, \
+             or set TURFTANGLE_LIB_DIR to the folder that holds libturftangle.a.",
             archive.display()
         );
         process::exit(1);
     }
     println!("cargo:rustc-link-search=native={}", folder.display());
-    println!("cargo:rustc-link-lib=static=capi");
+    println!("cargo:rustc-link-lib=static=turftangle");
 }

@@ -1,5 +1,0 @@
-pub mod Front
-pub mod Numbers
-pub mod Places
-pub mod Accepted
-pub mod Laws

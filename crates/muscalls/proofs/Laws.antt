@@ -1,0 +1,42 @@
+-- Each call of a MUS file tells a value from a refusal (`Told`).
+-- accept-told, list-told   so for tt_mus_accept and tt_mus_list
+use Prim.Native.Nat.{ℕ, _<_}
+use mathlib.Core.Path.{_≡_, sym, _∙_, ap}
+use mathlib.Core.List.{List}
+use native.Mathlib.Omega.{arith}
+use lib.Dec.{lit<}
+use lib.ListN.{length}
+use borrow.Author.Tests.{ltb-false}
+use Rattle.refusals.specs.Numbers.{Outcome}
+use Rattle.refusals.specs.Numbers.Outcome.{accepted}
+use Rattle.bodies.specs.Voice.{pairs}
+use Rattle.bodies.specs.Playing.{eventsOf, walkedOf}
+use Rattle.bodies.proofs.Related.{events-walked}
+use Rattle.mus.specs.Song.{musOutcome}
+use Rattle.events.specs.Listing.{voiceOf, bytesOf, playedIn, countOf, Listing, listing}
+use Rattle.events.specs.Laws.{accepted-window}
+use Rattle.events.proofs.Voices.{in-song}
+use Rattle.answers.specs.Told.{Told, low-told}
+use Rattle.muscalls.specs.Lists.{songNumbers}
+use Rattle.muscalls.proofs.Places.{mus-low, list-low}
+
+same : {A : Type 0} {a b : A} → _≡_ {A = Outcome A} (accepted a) (accepted b) → a ≡ b
+same e = cc
+
+module _ (f : List ℕ) where
+  pub accept-told : Told (λ s. length (songNumbers s)) (musOutcome f)
+  accept-told = low-told (λ s. length (songNumbers s)) (musOutcome f) (λ s e. lit< tt) (mus-low f)
+
+  -- a voice has at most 1,048,576 events
+  pub list-told : (voice first : ℕ) (os js : List ℕ) → Told (λ count. count) (listing f voice first os js .answer)
+  unfolding playedIn eventsOf
+  list-told voice first os js = low-told (λ count. count) (listing f voice first os js .answer) few (list-low f voice first os js)
+    where
+      few : (count : ℕ) → listing f voice first os js .answer ≡ accepted count → count < 0x100000000
+      few count e =
+          let w = accepted-window f voice first os js e in
+          let v = voiceOf (w .song) voice in
+          let i = in-song f (w .song) voice (w .file) in
+          let walked = ltb-false 1048576 (walkedOf (pairs (bytesOf f v))) (i .passes .limits .1 .0) in
+          let is : countOf (length os) first (playedIn f v) ≡ count = same (sym (ap (λ (l : Listing). l .answer) (w .window)) ∙ e) in
+          omega (arith, is, walked, events-walked (pairs (bytesOf f v)))

@@ -1,0 +1,43 @@
+use mathlib.Core.Path.{sym, ap, _∙_, subst}
+use Prim.Native.Nat.{ℕ}
+use mathlib.Core.List.{List}
+use lib.ListN.{length}
+use denote.Ref.{now}
+use borrow.Author.Needs.{needs}
+use Rattle.refusals.specs.Numbers.{Outcome}
+use Rattle.mus.specs.declared.Song.{Song}
+use Rattle.mus.specs.Song.{told}
+use Rattle.answers.specs.Answers.{packed, cellsAfter}
+use Rattle.fields.specs.Parts.{front}
+use Rattle.muscalls.specs.Lists.{songNumbers}
+use Rattle.answers.specs.Told.{Low, low-fits}
+use Rattle.muscalls.proofs.Places.{mus-low}
+use Rattle.muscalls.proofs.Accepted.{narrow-song}
+use Rattle.muscalls.proofs.accept.Statement.{statement}
+use Rattle.muscalls.proofs.accept.Tie as tie
+
+refused-requires : tie.Need-refused-requires
+refused-requires c κs =
+    low-fits (subst Low (sym (c .before .before .before .accept .ensures) ∙ ap told (c .before .x .given .1)) (mus-low _))
+
+song-numbers-requires : tie.Need-song-numbers-requires
+song-numbers-requires c κs =
+    narrow-song _ _ (sym (c .before .before .before .accept .ensures) ∙ ap told (c .before .s .given .1))
+
+returns : tie.Need-returns
+returns c =
+    let e = ap told (sym (c .before .before .x .given .1)) ∙ c .before .before .before .before .accept .ensures in
+    (c .refused .ensures ∙ ap (packed (λ a. length (songNumbers a))) e, ap (λ (o : Outcome Song). cellsAfter songNumbers o (now (c .before .before .before .before .before .before .before .args .out))) e)
+
+returns-2 : tie.Need-returns-2
+returns-2 c =
+    let out = now (c .before .before .before .before .before .before .before .before .before .before .before .before .args .out) in
+    let e = ap told (sym (c .before .before .before .before .before .before .before .s .given .1)) ∙ c .before .before .before .before .before .before .before .before .before .accept .ensures in (
+      ap (packed (λ a. length (songNumbers a))) e,
+      c .before .before .fill .ensures ∙ ap (λ (l : List ℕ). front l out) (c .before .before .before .before .before .song-numbers .ensures) ∙ ap (λ (o : Outcome Song). cellsAfter songNumbers o out) e,
+    )
+
+pub accept-spec : {M : Type 1} → statement M
+accept-spec =
+    tie.close
+    (tie.spec (λ c κs. search needs) (λ c. search needs) refused-requires (λ c. search needs) song-numbers-requires (λ c. search needs) (λ c κs. search needs) returns (λ c. search needs) returns-2)

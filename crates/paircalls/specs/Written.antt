@@ -1,0 +1,14 @@
+-- docs/INTERFACE.md, 'The code of a meaning': a code written as the two bytes of a pair.
+-- bytesNumber   two bytes as one number: first × 256 + second
+-- written       a code's two bytes; 'every other number is a meaning without a pair (43)'
+use Prim.Native.Nat.{ℕ, _+_, _*_}
+use Rattle.refusals.specs.Numbers.{Outcome}
+use Rattle.meaning.specs.Answers.{Bytes}
+use Rattle.codes.specs.Decoding.{after, decoded}
+use Rattle.pair.specs.Pairs.{spellingOf}
+
+abbrev pub bytesNumber : Bytes → ℕ
+bytesNumber b = b .first * 256 + b .second
+
+unfoldable pub written : ℕ → Outcome Bytes
+written code = after (decoded code) (λ m. spellingOf m)

@@ -1,0 +1,37 @@
+// The calls of pairs for C and Rust, with answers as docs/INTERFACE.md fixes them. Each answers for every number; none
+// has a requires.
+ghost use mathlib.Core.Path.{_≡_};
+ghost use Rattle.pair.specs.Pairs.{meaningOf};
+ghost use Rattle.codes.specs.Coding.{codeOf};
+ghost use Rattle.answers.specs.Answers.{packed};
+ghost use Rattle.paircalls.specs.Written.{bytesNumber, written};
+use meaning::Reading;
+use meaning::Spelling;
+
+// internal: the body of tt_pair_read.
+pub fn read(first: u8, second: u8) -> u64
+    ensures { λ r. ⌜ r ≡ packed codeOf (meaningOf first second) ⌝ }
+{
+    // as pair::read does; a note and a command that come to one place here, and not there, are not packed into one
+    // value first
+    if first % 4 == 0 {
+        return codes::notes::note_code(note::read_note(first, second));
+    }
+    match command::read_command(first, second) {
+        Reading::Refused(x) => answers::refused(x),
+        Reading::Means(m) => codes::code_of(m),
+    }
+}
+
+// internal: the body of tt_pair_write.
+pub fn write(code: u32) -> u64
+    ensures { λ r. ⌜ r ≡ packed bytesNumber (written code) ⌝ }
+{
+    match codes::meaning_of(code) {
+        Reading::Refused(x) => answers::refused(x),
+        Reading::Means(m) => match pair::write(m) {
+            Spelling::Refused(x) => answers::refused(x),
+            Spelling::Bytes(first, second) => first as u64 * 256 + second as u64,
+        },
+    }
+}

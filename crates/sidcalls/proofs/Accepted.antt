@@ -1,0 +1,63 @@
+-- What acceptance shows of the numbers that are handed out: places and lengths are small.
+-- narrow-header   so of a PSID or RSID file
+-- fits            such a number fits 32 bits
+use Prim.Native.Nat.{ℕ, _+_, _≤_, _<_, _^_}
+use mathlib.Core.Path.{_≡_, refl, sym, subst}
+use mathlib.Core.Bool.{Bool, true, false, not, _&&_, _||_, cond}
+use mathlib.Core.List.{List}
+use native.Mathlib.Omega.{arith}
+use lib.Dec.{eqb, lit≤}
+use lib.ListN.{take, drop, length-take}
+use borrow.Author.Tests.{eqb-true}
+use Rattle.fields.specs.Laws.{length-before}
+use Rattle.refusals.specs.Numbers.Outcome.{accepted}
+use Rattle.sidheader.specs.declared.Fields.{Fields}
+use Rattle.sidheader.specs.Fields.{fieldsOf}
+use Rattle.sidheader.specs.Payload.{addressed, after, whole, payloadOf}
+use Rattle.sidrefusals.specs.HeaderTests.{isRsid}
+use Rattle.sidrefusals.specs.PayloadTests.{sidTests}
+use Rattle.sid.specs.declared.Header.{Header}
+use Rattle.sid.specs.Header.{headerOf, spanAt}
+use Rattle.sid.specs.Answers.{sidOutcome}
+use Rattle.sid.specs.Laws.{header, accepted-none, accepted-header, accepted-fits}
+use Rattle.sidcalls.specs.Bounds.{NarrowSpan, Narrow}
+
+-- 4 lets pass only $76 and $7C
+offset-low : (x : Fields) (r : Bool) → not (eqb (x .version) 1 || eqb (x .version) 2) || r && not (eqb (x .version) 2) ≡ false
+    → eqb (x .version) 1 && not (eqb (x .offset) 0x76) || eqb (x .version) 2 && not (eqb (x .offset) 0x7C) ≡ false
+    → x .offset ≤ 0x7C
+offset-low x r v4 o4 = go (eqb (x .version) 1) (eqb (x .version) 2) (eqb (x .offset) 0x76) refl (eqb (x .offset) 0x7C) refl v4 o4
+  where
+    go : (one two a : Bool) → eqb (x .offset) 0x76 ≡ a → (b : Bool) → eqb (x .offset) 0x7C ≡ b
+        → not (one || two) || r && not two ≡ false → one && not a || two && not b ≡ false → x .offset ≤ 0x7C
+    go true two true ea b eb v o = omega (arith, eqb-true (x .offset) 0x76 ea)
+    go true two false ea b eb v o = absurd (let z : _≡_ {A = ℕ} 0 1 = cc in omega arith)
+    go false true a ea true eb v o = omega (arith, eqb-true (x .offset) 0x7C eb)
+    go false true a ea false eb v o = absurd (let z : _≡_ {A = ℕ} 0 1 = cc in omega arith)
+    go false false a ea b eb v o = absurd (let z : _≡_ {A = ℕ} 0 1 = cc in omega arith)
+
+text-narrow : (f : List ℕ) (at : ℕ) → at ≤ 65538 → NarrowSpan (spanAt f at)
+text-narrow f at h =
+    record { from = h; len = omega (arith, length-before 0 (take 31 (drop at f)), length-take 31 (drop at f)) }
+
+pub narrow-header : (f : List ℕ) (h : Header) → sidOutcome f ≡ accepted h → Narrow h
+unfolding sidTests headerOf payloadOf
+narrow-header f h e =
+    let x = fieldsOf f in
+    let none = accepted-none f h e in
+    let low = offset-low x (isRsid x) (none .1 .1 .0) (none .1 .1 .1 .1 .0) in
+    let fits : header f .load + header f .payload .len ≤ 65536 = subst (λ (k : Header). k .load + k .payload .len ≤ 65536) (sym (accepted-header f h e)) (accepted-fits f h e) in
+    subst Narrow (accepted-header f h e)
+    record {
+      title = text-narrow f 0x16 (lit≤ tt);
+      author = text-narrow f 0x36 (lit≤ tt);
+      released = text-narrow f 0x56 (lit≤ tt);
+      payload = record { from = go (addressed x) low; len = omega arith };
+    }
+  where
+    go : (b : Bool) → fieldsOf f .offset ≤ 0x7C → cond b (after f (fieldsOf f)) (whole (fieldsOf f)) .from ≤ 65538
+    go true l = omega arith
+    go false l = omega arith
+
+pub fits : {n : ℕ} → n ≤ 65538 → n < 2 ^ 32
+fits h = omega arith

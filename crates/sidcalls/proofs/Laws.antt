@@ -1,0 +1,42 @@
+-- Each call of a PSID or RSID file tells a value from a refusal (`Told`).
+-- read-told, fields-told, load-told, speed-told   so for tt_sid_read, tt_sid_fields, tt_sid_load and tt_sid_speed
+use Prim.Native.Nat.{ℕ, _<_}
+use mathlib.Core.Path.{_≡_}
+use mathlib.Core.Bool.{_||_}
+use mathlib.Core.List.{List, [], _∷_}
+use native.Mathlib.Omega.{arith}
+use lib.Dec.{lit<, eqb, ltb}
+use lib.ListN.{length}
+use Rattle.refusals.specs.Numbers.{Outcome}
+use Rattle.refusals.specs.Numbers.Outcome.{accepted, refused}
+use Rattle.refusals.specs.Numbers.Reason.{noSuchSong}
+use Rattle.refusals.specs.Tests.{test, firstOf}
+use Rattle.refusals.specs.Laws.{two-ways, guarded-accepted}
+use Rattle.sid.specs.declared.Header.{Header}
+use Rattle.sid.specs.Answers.{sidOutcome}
+use Rattle.sid.specs.Loading.{loadOutcome}
+use Rattle.sid.specs.Speed.{speedBit, songSpeed, speedOutcome}
+use Rattle.answers.specs.Answers.{noValue}
+use Rattle.answers.specs.Told.{Told, low-told}
+use Rattle.sidcalls.specs.Lists.{headerNumbers}
+use Rattle.sidcalls.proofs.Places.{sid-low, load-low, speed-low}
+
+module _ (f : List ℕ) where
+  pub read-told : Told noValue (sidOutcome f)
+  read-told = low-told noValue (sidOutcome f) (λ h e. lit< tt) (sid-low f)
+
+  pub fields-told : Told (λ h. length (headerNumbers h)) (sidOutcome f)
+  fields-told = low-told (λ h. length (headerNumbers h)) (sidOutcome f) (λ h e. lit< tt) (sid-low f)
+
+  pub load-told : (cells : ℕ) → Told noValue (loadOutcome f cells)
+  load-told cells = low-told noValue (loadOutcome f cells) (λ h e. lit< tt) (load-low f cells)
+
+  pub speed-told : (song : ℕ) → Told (λ bit. bit) (speedOutcome f song)
+  unfolding speedOutcome speedBit
+  speed-told song = low-told (λ bit. bit) (speedOutcome f song) (λ bit e. bit-low (sidOutcome f) bit e) (speed-low f song)
+    where
+      bit-low : (o : Outcome Header) (bit : ℕ) → songSpeed o song ≡ accepted bit → bit < 0x100000000
+      bit-low (accepted h) bit e =
+          let is : speedBit (h .speed) song ≡ bit = guarded-accepted (firstOf (test noSuchSong (eqb song 0 || ltb (h .songs) song) ∷ [])) bit (speedBit (h .speed) song) e .1 in
+          omega (arith, is)
+      bit-low (refused n p) bit e = absurd (two-ways e)

@@ -1,0 +1,43 @@
+use mathlib.Core.Path.{sym, ap, _∙_, subst}
+use Prim.Native.Nat.{ℕ}
+use mathlib.Core.List.{List}
+use lib.ListN.{length}
+use denote.Ref.{now}
+use borrow.Author.Needs.{needs}
+use Rattle.refusals.specs.Numbers.{Outcome}
+use Rattle.sid.specs.declared.Header.{Header}
+use Rattle.sid.specs.Answers.{told}
+use Rattle.answers.specs.Answers.{packed, cellsAfter}
+use Rattle.fields.specs.Parts.{front}
+use Rattle.sidcalls.specs.Lists.{headerNumbers}
+use Rattle.answers.specs.Told.{Low, low-fits}
+use Rattle.sidcalls.proofs.Places.{sid-low}
+use Rattle.sidcalls.proofs.Accepted.{narrow-header}
+use Rattle.sidcalls.proofs.fields.Statement.{statement}
+use Rattle.sidcalls.proofs.fields.Tie as tie
+
+refused-requires : tie.Need-refused-requires
+refused-requires c κs =
+    low-fits (subst Low (sym (c .before .before .before .read .ensures) ∙ ap told (c .before .x .given .1)) (sid-low _))
+
+header-numbers-requires : tie.Need-header-numbers-requires
+header-numbers-requires c κs =
+    narrow-header _ _ (sym (c .before .before .before .read .ensures) ∙ ap told (c .before .h .given .1))
+
+returns : tie.Need-returns
+returns c =
+    let e = ap told (sym (c .before .before .x .given .1)) ∙ c .before .before .before .before .read .ensures in
+    (c .refused .ensures ∙ ap (packed (λ a. length (headerNumbers a))) e, ap (λ (o : Outcome Header). cellsAfter headerNumbers o (now (c .before .before .before .before .before .before .before .args .out))) e)
+
+returns-2 : tie.Need-returns-2
+returns-2 c =
+    let out = now (c .before .before .before .before .before .before .before .before .before .before .before .before .args .out) in
+    let e = ap told (sym (c .before .before .before .before .before .before .before .h .given .1)) ∙ c .before .before .before .before .before .before .before .before .before .read .ensures in (
+      ap (packed (λ a. length (headerNumbers a))) e,
+      c .before .before .fill .ensures ∙ ap (λ (l : List ℕ). front l out) (c .before .before .before .before .before .header-numbers .ensures) ∙ ap (λ (o : Outcome Header). cellsAfter headerNumbers o out) e,
+    )
+
+pub fields-spec : {M : Type 1} → statement M
+fields-spec =
+    tie.close
+    (tie.spec (λ c κs. search needs) (λ c. search needs) refused-requires (λ c. search needs) header-numbers-requires (λ c. search needs) (λ c κs. search needs) returns (λ c. search needs) returns-2)
