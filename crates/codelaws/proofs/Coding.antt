@@ -25,8 +25,8 @@ use Rattle.meaning.specs.declared.Bump.the-variants.{Up, Down}
 use Rattle.meaning.specs.declared.Meaning.{Meaning}
 use Rattle.meaning.specs.declared.Meaning.the-variants as M
 use Rattle.codes.specs.Coding.{count, signed, durationDigits, shapeDigit, tieDigit, letterDigit, accidentalDigit, toneDigits, noteCode, codeOf}
-use Rattle.codes.specs.Tables.{lookup, durations, shapes, ties, letters, accidentals, above, below, plain, negative}
-use Rattle.codes.specs.Decoding.{toneAt, commandAt, decoded}
+use Rattle.decoding.specs.Tables.{lookup, durations, shapes, ties, letters, accidentals, above, below, plain, negative}
+use Rattle.decoding.specs.Decoding.{toneAt, commandAt, decoded}
 use Rattle.codelaws.specs.Statements.{Written, Coded}
 use Rattle.codelaws.proofs.Decoding.{up, down}
 use Rattle.codelaws.proofs.Sizes.{counted-small, phrase-small, destination-small, alone-small, joined-small, tempo-small, Small, byte-small, jif-small, dtn-small, tps-small, rtp-small, SmallTone, tone-small}

@@ -19,8 +19,8 @@ use Rattle.meaning.specs.declared.Meaning.{Meaning}
 use Rattle.meaning.specs.declared.Meaning.the-variants as M
 use Rattle.meaning.specs.declared.Tone.the-variants.{Rest, Sounds}
 use Rattle.codes.specs.Coding.{durationDigits, shapeDigit, tieDigit, letterDigit, accidentalDigit, toneDigits, signed, codeOf}
-use Rattle.codes.specs.Tables.{none, Entry, lookup, durations, shapes, ties, letters, accidentals, switched, bumped, bare, above, below, plain, negative}
-use Rattle.codes.specs.Decoding.{after, toneAt, noteAt, commandAt, decoded}
+use Rattle.decoding.specs.Tables.{none, Entry, lookup, durations, shapes, ties, letters, accidentals, switched, bumped, bare, above, below, plain, negative}
+use Rattle.decoding.specs.Decoding.{after, toneAt, noteAt, commandAt, decoded}
 
 abbrev Each : {A : Type 0} → (A → ℕ → Type 0) → List (Entry A) → Type 0
 Each P [] = Unit

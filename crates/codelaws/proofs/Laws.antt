@@ -17,7 +17,7 @@ use Rattle.pairlaws.proofs.Written.{reads-back}
 use Rattle.pairlaws.specs.Usual.{usual}
 use Rattle.pairlaws.proofs.Laws.{read-written}
 use Rattle.codes.specs.Coding.{codeOf}
-use Rattle.codes.specs.Decoding.{decoded}
+use Rattle.decoding.specs.Decoding.{decoded}
 use Rattle.codelaws.specs.Statements.{WithoutPair, Written, Coded}
 use Rattle.codelaws.proofs.Decoding.{Right, decodes}
 use Rattle.codelaws.proofs.Coding.{coded}

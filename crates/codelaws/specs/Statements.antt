@@ -12,7 +12,7 @@ use Rattle.meaning.specs.declared.Meaning.{Meaning}
 use Rattle.spelling.specs.Counts.{pair}
 use Rattle.pair.specs.Pairs.{spellingOf}
 use Rattle.codes.specs.Coding.{codeOf}
-use Rattle.codes.specs.Decoding.{decoded}
+use Rattle.decoding.specs.Decoding.{decoded}
 
 abbrev pub PairRefused : Outcome Meaning → Type 0
 PairRefused (accepted m) = Unit

@@ -1,4 +1,1 @@
 pub mod Coding
-pub mod Tables
-pub mod Decoding
-pub mod Answers

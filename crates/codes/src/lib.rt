@@ -1,22 +1,10 @@
-// The code of a meaning, a number that a person can read in hex: docs/INTERFACE.md fixes it. Each call answers for every value.
+// The code of a meaning, a number that a person can read in hex: docs/INTERFACE.md fixes it. The call answers for every meaning.
 ghost use mathlib.Core.Path.{_≡_};
-ghost use Rattle.meaning.specs.Answers.{toldMeaning};
 ghost use Rattle.codes.specs.Coding.{codeOf};
-ghost use Rattle.codes.specs.Tables.{none};
-ghost use Rattle.codes.specs.Decoding.{decoded};
 use meaning::Meaning;
-use meaning::Reading;
-use refusals::Refusal;
 
 mod commands;
 pub mod notes;
-
-// internal: no pair has this meaning.
-pub fn none() -> Reading
-    ensures { λ r. ⌜ toldMeaning r ≡ none ⌝ }
-{
-    Reading::Refused(Refusal::unplaced(refusals::NO_PAIR))
-}
 
 // The code of a meaning. One line a case, in source 004's order.
 pub fn code_of(meaning: Meaning) -> u64
@@ -75,26 +63,4 @@ pub fn code_of(meaning: Meaning) -> u64
         Meaning::Dtn(z) => commands::signed(0x20A, z),
         Meaning::Por(v) => commands::count(0x203, v),
     }
-}
-
-// The meaning that a number codes, or 43.
-pub fn meaning_of(code: u32) -> Reading
-    ensures { λ r. ⌜ toldMeaning r ≡ decoded code ⌝ }
-{
-    if code / 0x10000000 == 1 {
-        return notes::note_at(code);
-    }
-    let id = code / 0x100000;
-    let sign = code / 0x10000 % 0x10;
-    let v = (code % 0x10000) as u16;
-    if sign == 0 {
-        return commands::plain_at(id, v);
-    }
-    if sign != 1 {
-        return none();
-    }
-    if v == 0 {
-        return none();
-    }
-    commands::negative_at(id, v)
 }

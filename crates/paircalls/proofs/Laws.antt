@@ -12,7 +12,7 @@ use Rattle.pair.specs.Pairs.{meaningOf, spellingOf}
 use Rattle.pairlaws.specs.Statements.{ReadsBack}
 use Rattle.pairlaws.proofs.Written.{reads-back}
 use Rattle.codes.specs.Coding.{codeOf}
-use Rattle.codes.specs.Decoding.{after, decoded}
+use Rattle.decoding.specs.Decoding.{after, decoded}
 use Rattle.codelaws.specs.Statements.{PairRefused, WithoutPair}
 use Rattle.codelaws.proofs.Refused.{pair-refused}
 use Rattle.codelaws.proofs.Laws.{read-coded, undecoded}

@@ -4,7 +4,7 @@
 use Prim.Native.Nat.{ℕ, _+_, _*_}
 use Rattle.refusals.specs.Numbers.{Outcome}
 use Rattle.meaning.specs.Answers.{Bytes}
-use Rattle.codes.specs.Decoding.{after, decoded}
+use Rattle.decoding.specs.Decoding.{after, decoded}
 use Rattle.pair.specs.Pairs.{spellingOf}
 
 abbrev pub bytesNumber : Bytes → ℕ

@@ -27,7 +27,7 @@ pub fn read(first: u8, second: u8) -> u64
 pub fn write(code: u32) -> u64
     ensures { λ r. ⌜ r ≡ packed bytesNumber (written code) ⌝ }
 {
-    match codes::meaning_of(code) {
+    match decoding::meaning_of(code) {
         Reading::Refused(x) => answers::refused(x),
         Reading::Means(m) => match pair::write(m) {
             Spelling::Refused(x) => answers::refused(x),

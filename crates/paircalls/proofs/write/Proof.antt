@@ -4,7 +4,7 @@ use Rattle.refusals.specs.Numbers.{Outcome}
 use Rattle.meaning.specs.declared.Meaning.{Meaning}
 use Rattle.meaning.specs.Answers.{toldMeaning, toldBytes}
 use Rattle.pair.specs.Pairs.{spellingOf}
-use Rattle.codes.specs.Decoding.{after}
+use Rattle.decoding.specs.Decoding.{after}
 use Rattle.codelaws.specs.Statements.{WithoutPair}
 use Rattle.codelaws.proofs.Laws.{undecoded, unwritten}
 use Rattle.answers.specs.Answers.{packed}

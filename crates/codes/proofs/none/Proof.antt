@@ -1,9 +1,0 @@
-use borrow.Author.Needs.{needs}
-use Rattle.codes.proofs.none.Statement.{statement}
-use Rattle.codes.proofs.none.Tie as tie
-
-returns : tie.Need-returns
-returns c = rw (c .unplaced .ensures)
-
-pub none-spec : {M : Type 1} → statement M
-none-spec = tie.close (tie.spec (λ c κs. search needs) returns)
