@@ -1,18 +1,20 @@
 -- Decoding gives back what was coded: of every number, the meaning that it decodes to has that number as its code.
+-- Is                         a value that has this number, by a function that gives a value's number
 -- Right                      what an outcome says of a number: its meaning's code is the number; if it is refused, it is 43
 -- Each, found                what holds of each entry of a table holds of what is found
--- digits-.., tone-right, note-right   a note, digit by digit
+-- duration-found to tone-found, note-right   a note, digit by digit
 -- switched-right, bumped-right, bare-right, above-right, below-right   a command, by the kind of its value
 -- decodes                    so for every number
 use Prim.Native.Nat.{ℕ, _+_, _*_, _-_, _/_, _%_, _<_}
 use mathlib.Core.Path.{_≡_, refl, sym, _∙_, ap, subst}
-use mathlib.Core.Bool.{Bool, true, false, cond}
+use mathlib.Core.Bool.{Bool, false, true}
 use mathlib.Core.List.{List, [], _∷_}
 use native.Mathlib.Omega.{arith}
 use native.Mathlib.Decide.{ℕ-discrete}
 use lib.Dec.{eqb}
 use lib.IntN.{ℤ, pos, negsuc, subℕ}
 use borrow.Author.Tests.{eqb-true, eqb-false, ne-eqb, lt-leb, lt-ltb, le-ltb}
+use Rattle.logic.specs.Cases.{cases}
 use Rattle.refusals.specs.Numbers.{Outcome}
 use Rattle.refusals.specs.Numbers.Outcome.{accepted, refused}
 use Rattle.meaning.specs.declared.Meaning.{Meaning}
@@ -21,6 +23,11 @@ use Rattle.meaning.specs.declared.Tone.the-variants.{Rest, Sounds}
 use Rattle.codes.specs.Coding.{durationDigits, shapeDigit, tieDigit, letterDigit, accidentalDigit, toneDigits, signed, codeOf}
 use Rattle.decoding.specs.Tables.{none, Entry, lookup, durations, shapes, ties, letters, accidentals, switched, bumped, bare, above, below, plain, negative}
 use Rattle.decoding.specs.Decoding.{after, toneAt, noteAt, commandAt, decoded}
+
+-- the facts of a table's entries, one after the other
+infixr 40 _and_
+abbrev _and_ : {A B : Type 0} → A → B → A × B
+a and b = (a, b)
 
 abbrev Each : {A : Type 0} → (A → ℕ → Type 0) → List (Entry A) → Type 0
 Each P [] = Unit
@@ -31,51 +38,50 @@ abbrev pub Found : {A : Type 0} → (A → ℕ → Type 0) → ℕ → Outcome A
 Found P k (accepted a) = P a k
 Found P k (refused number place) = (number ≡ 43) × (place ≡ 0)
 
+-- a value that has this number
+abbrev Is : {A : Type 0} → (A → ℕ) → A → ℕ → Type 0
+Is f a k = f a ≡ k
+
 -- what an outcome says of a number: its meaning's code is the number
 abbrev pub Right : ℕ → Outcome Meaning → Type 0
-Right n o = Found (λ m i. codeOf m ≡ i) n o
+Right n o = Found (Is codeOf) n o
 
 found : {A : Type 0} (P : A → ℕ → Type 0) (es : List (Entry A)) (k : ℕ) → Each P es → Found P k (lookup es k)
 found P [] k h = (refl, refl)
-found P (e ∷ es) k h = go (eqb k (e .digits)) refl (found P es k (h .1))
-  where
-    go : (t : Bool) → eqb k (e .digits) ≡ t → Found P k (lookup es k) → Found P k (cond t (accepted (e .value)) (lookup es k))
-    go true q rest = subst (P (e .value)) (sym (eqb-true k (e .digits) q)) (h .0)
-    go false q rest = rest
+found P (e ∷ es) k h =
+    cases (eqb k (e .digits)) (λ q. rw q (subst (P (e .value)) (sym (eqb-true k (e .digits) q)) (h .0))) (λ q. rw q (found P es k (h .1)))
 
 -- what comes after a part that was found
-after-found : {A B : Type 0} (P : A → ℕ → Type 0) (Q : B → ℕ → Type 0) (k n : ℕ) (o : Outcome A) (g : A → Outcome B) → Found P k o → ((a : A) → P a k → Found Q n (g a)) → Found Q n (after o g)
+after-found : {A B : Type 0} (P : A → ℕ → Type 0) (Q : B → ℕ → Type 0) (k n : ℕ) (o : Outcome A) (g : A → Outcome B) → Found P k o
+    → ((a : A) → P a k → Found Q n (g a)) → Found Q n (after o g)
 after-found P Q k n (accepted a) g p h = h a p
 after-found P Q k n (refused number place) g p h = p
 
 module _ (k : ℕ) where
-  duration-found : Found (λ d i. durationDigits d ≡ i) k (lookup durations k)
-  duration-found = found (λ d i. durationDigits d ≡ i) durations k (refl, (refl, (refl, (refl, (refl, (refl, (refl, (refl, (refl, (refl, tt))))))))))
+  duration-found : Found (Is durationDigits) k (lookup durations k)
+  duration-found = found (Is durationDigits) durations k (refl and refl and refl and refl and refl and refl and refl and refl and refl and refl and tt)
 
-  shape-found : Found (λ s i. shapeDigit s ≡ i) k (lookup shapes k)
-  shape-found = found (λ s i. shapeDigit s ≡ i) shapes k (refl, (refl, (refl, (refl, tt))))
+  shape-found : Found (Is shapeDigit) k (lookup shapes k)
+  shape-found = found (Is shapeDigit) shapes k (refl and refl and refl and refl and tt)
 
-  tie-found : Found (λ t i. tieDigit t ≡ i) k (lookup ties k)
-  tie-found = found (λ t i. tieDigit t ≡ i) ties k (refl, (refl, tt))
+  tie-found : Found (Is tieDigit) k (lookup ties k)
+  tie-found = found (Is tieDigit) ties k (refl and refl and tt)
 
-  letter-found : Found (λ l i. letterDigit l ≡ i) k (lookup letters k)
-  letter-found = found (λ l i. letterDigit l ≡ i) letters k (refl, (refl, (refl, (refl, (refl, (refl, (refl, tt)))))))
+  letter-found : Found (Is letterDigit) k (lookup letters k)
+  letter-found = found (Is letterDigit) letters k (refl and refl and refl and refl and refl and refl and refl and tt)
 
-  accidental-found : Found (λ a i. accidentalDigit a ≡ i) k (lookup accidentals k)
-  accidental-found = found (λ a i. accidentalDigit a ≡ i) accidentals k (refl, (refl, (refl, (refl, (refl, tt)))))
+  accidental-found : Found (Is accidentalDigit) k (lookup accidentals k)
+  accidental-found = found (Is accidentalDigit) accidentals k (refl and refl and refl and refl and refl and tt)
 
-tone-found : (k : ℕ) → k < 0x1000 → Found (λ o i. toneDigits o ≡ i) k (toneAt k)
-tone-found k low = go (eqb k 0) refl
-  where
-    pitched : Found (λ o i. toneDigits o ≡ i) k (after (lookup letters (k / 0x100)) (λ l. after (lookup accidentals (k / 0x10 % 0x10)) (λ a. accepted (Sounds (record { letter = l; accidental = a; octave = k % 0x10 })))))
-    pitched =
-        after-found (λ l i. letterDigit l ≡ i) (λ o i. toneDigits o ≡ i) (k / 0x100) k (lookup letters (k / 0x100)) _ (letter-found (k / 0x100))
-        (λ l el. after-found (λ a i. accidentalDigit a ≡ i) (λ o i. toneDigits o ≡ i) (k / 0x10 % 0x10) k (lookup accidentals (k / 0x10 % 0x10)) _ (accidental-found (k / 0x10 % 0x10))
-        (λ a ea. omega arith))
-
-    go : (t : Bool) → eqb k 0 ≡ t → Found (λ o i. toneDigits o ≡ i) k (cond t (accepted Rest) (after (lookup letters (k / 0x100)) (λ l. after (lookup accidentals (k / 0x10 % 0x10)) (λ a. accepted (Sounds (record { letter = l; accidental = a; octave = k % 0x10 }))))))
-    go true e = sym (eqb-true k 0 e)
-    go false e = pitched
+tone-found : (k : ℕ) → k < 0x1000 → Found (Is toneDigits) k (toneAt k)
+tone-found k low =
+    let letter = k / 0x100 in
+    let accidental = k / 0x10 % 0x10 in
+    cases (eqb k 0) (λ e. rw e (sym (eqb-true k 0 e)))
+    (λ e. rw e
+    (after-found (Is letterDigit) (Is toneDigits) letter k (lookup letters letter) _ (letter-found letter)
+    (λ l el. after-found (Is accidentalDigit) (Is toneDigits) accidental k (lookup accidentals accidental) _ (accidental-found accidental)
+    (λ a ea. omega arith))))
 
 -- a number by its digits
 digits : (n : ℕ) → n ≡ n / 0x10000000 * 0x10000000 + n / 0x100000 % 0x100 * 0x100000 + n / 0x10000 % 0x10 * 0x10000 + n / 0x1000 % 0x10 * 0x1000 + n % 0x1000
@@ -87,10 +93,14 @@ digits n =
 
 note-right : (n : ℕ) → n / 0x10000000 ≡ 1 → Right n (noteAt n)
 note-right n one =
-    after-found (λ d i. durationDigits d ≡ i) (λ m i. codeOf m ≡ i) (n / 0x100000 % 0x100) n (lookup durations (n / 0x100000 % 0x100)) _ (duration-found (n / 0x100000 % 0x100))
-    (λ d ed. after-found (λ s i. shapeDigit s ≡ i) (λ m i. codeOf m ≡ i) (n / 0x10000 % 0x10) n (lookup shapes (n / 0x10000 % 0x10)) _ (shape-found (n / 0x10000 % 0x10))
-    (λ s es. after-found (λ t i. tieDigit t ≡ i) (λ m i. codeOf m ≡ i) (n / 0x1000 % 0x10) n (lookup ties (n / 0x1000 % 0x10)) _ (tie-found (n / 0x1000 % 0x10))
-    (λ t et. after-found (λ o i. toneDigits o ≡ i) (λ m i. codeOf m ≡ i) (n % 0x1000) n (toneAt (n % 0x1000)) _ (tone-found (n % 0x1000) (omega arith))
+    let duration = n / 0x100000 % 0x100 in
+    let shape = n / 0x10000 % 0x10 in
+    let tie = n / 0x1000 % 0x10 in
+    let tone = n % 0x1000 in
+    after-found (Is durationDigits) (Is codeOf) duration n (lookup durations duration) _ (duration-found duration)
+    (λ d ed. after-found (Is shapeDigit) (Is codeOf) shape n (lookup shapes shape) _ (shape-found shape)
+    (λ s es. after-found (Is tieDigit) (Is codeOf) tie n (lookup ties tie) _ (tie-found tie)
+    (λ t et. after-found (Is toneDigits) (Is codeOf) tone n (toneAt tone) _ (tone-found tone (omega arith))
     (λ o eo. omega (arith, digits n)))))
 
 -- a command of a number and a value, with the digits of the sign between them
@@ -133,208 +143,100 @@ below-right : (m : ℤ → Meaning) (id : ℕ) → ((z : ℤ) → codeOf (m z) �
 below-right m id is v h = rw (down v h) (is (negsuc (v - 1)) ∙ omega arith)
 
 plain-right : Each (RightFor 0 Any) plain
-plain-right = (
-  (λ v u. refl),
-  (
-    (λ v u. refl),
-    (
-      (λ v u. refl),
-      (
-        bumped-right,
-        (
-          switched-right M.Flt 0x313 refl refl,
-          (
-            switched-right M.Rng 0x323 refl refl,
-            (
-              switched-right M.Snc 0x333 refl refl,
-              (
-                switched-right M.Fx 0x343 refl refl,
-                (
-                  (λ v u. refl),
-                  (
-                    (λ v u. refl),
-                    (
-                      (λ v u. refl),
-                      (
-                        (λ v u. refl),
-                        (
-                          switched-right M.Pv 0x373 refl refl,
-                          (
-                            (λ v u. refl),
-                            (
-                              (λ v u. refl),
-                              (
-                                (λ v u. refl),
-                                (
-                                  (λ v u. refl),
-                                  (
-                                    (λ v u. refl),
-                                    (
-                                      switched-right M.ThreeOff 0x35B refl refl,
-                                      (
-                                        (λ v u. refl),
-                                        (
-                                          bare-right M.Tal 0x30F refl,
-                                          (
-                                            bare-right M.End 0x32F refl,
-                                            (
-                                              bare-right M.Hlt 0x34F refl,
-                                              (
-                                                (λ v u. refl),
-                                                (
-                                                  (λ v u. refl),
-                                                  (
-                                                    (λ v u. refl),
-                                                    (
-                                                      (λ v u. refl),
-                                                      (
-                                                        (λ v u. refl),
-                                                        (
-                                                          (λ v u. refl),
-                                                          (
-                                                            (λ v u. refl),
-                                                            (
-                                                              (λ v u. refl),
-                                                              (
-                                                                above-right M.Ps 0x256 (λ z. refl),
-                                                                (
-                                                                  above-right M.Fs 0x266 (λ z. refl),
-                                                                  (
-                                                                    above-right M.Sca 0x26E (λ z. refl),
-                                                                    (
-                                                                      (λ v u. refl),
-                                                                      (
-                                                                        (λ v u. refl),
-                                                                        (
-                                                                          above-right M.Aut 0x296 (λ z. refl),
-                                                                          (
-                                                                            above-right M.Tps 0x2A6 (λ z. refl),
-                                                                            (
-                                                                              (λ v u. refl),
-                                                                              (
-                                                                                (λ v u. refl),
-                                                                                (
-                                                                                  (λ v u. refl),
-                                                                                  (
-                                                                                    (λ v u. refl),
-                                                                                    (
-                                                                                      (λ v u. refl),
-                                                                                      (
-                                                                                        (λ v u. refl),
-                                                                                        (
-                                                                                          above-right M.Rtp 0x22E (λ z. refl),
-                                                                                          (
-                                                                                            (λ v u. refl),
-                                                                                            (
-                                                                                              (λ v u. refl),
-                                                                                              (
-                                                                                                above-right M.Jif 0x23E (λ z. refl),
-                                                                                                (
-                                                                                                  above-right M.Dtn 0x20A (λ z. refl),
-                                                                                                  (
-                                                                                                    (λ v u. refl),
-                                                                                                    tt,
-                                                                                                  ),
-                                                                                                ),
-                                                                                              ),
-                                                                                            ),
-                                                                                          ),
-                                                                                        ),
-                                                                                      ),
-                                                                                    ),
-                                                                                  ),
-                                                                                ),
-                                                                              ),
-                                                                            ),
-                                                                          ),
-                                                                        ),
-                                                                      ),
-                                                                    ),
-                                                                  ),
-                                                                ),
-                                                              ),
-                                                            ),
-                                                          ),
-                                                        ),
-                                                      ),
-                                                    ),
-                                                  ),
-                                                ),
-                                              ),
-                                            ),
-                                          ),
-                                        ),
-                                      ),
-                                    ),
-                                  ),
-                                ),
-                              ),
-                            ),
-                          ),
-                        ),
-                      ),
-                    ),
-                  ),
-                ),
-              ),
-            ),
-          ),
-        ),
-      ),
-    ),
-  ),
-)
+plain-right =
+    (λ v u. refl)
+    and (λ v u. refl)
+    and (λ v u. refl)
+    and bumped-right
+    and switched-right M.Flt 0x313 refl refl
+    and switched-right M.Rng 0x323 refl refl
+    and switched-right M.Snc 0x333 refl refl
+    and switched-right M.Fx 0x343 refl refl
+    and (λ v u. refl)
+    and (λ v u. refl)
+    and (λ v u. refl)
+    and (λ v u. refl)
+    and switched-right M.Pv 0x373 refl refl
+    and (λ v u. refl)
+    and (λ v u. refl)
+    and (λ v u. refl)
+    and (λ v u. refl)
+    and (λ v u. refl)
+    and switched-right M.ThreeOff 0x35B refl refl
+    and (λ v u. refl)
+    and bare-right M.Tal 0x30F refl
+    and bare-right M.End 0x32F refl
+    and bare-right M.Hlt 0x34F refl
+    and (λ v u. refl)
+    and (λ v u. refl)
+    and (λ v u. refl)
+    and (λ v u. refl)
+    and (λ v u. refl)
+    and (λ v u. refl)
+    and (λ v u. refl)
+    and (λ v u. refl)
+    and above-right M.Ps 0x256 (λ z. refl)
+    and above-right M.Fs 0x266 (λ z. refl)
+    and above-right M.Sca 0x26E (λ z. refl)
+    and (λ v u. refl)
+    and (λ v u. refl)
+    and above-right M.Aut 0x296 (λ z. refl)
+    and above-right M.Tps 0x2A6 (λ z. refl)
+    and (λ v u. refl)
+    and (λ v u. refl)
+    and (λ v u. refl)
+    and (λ v u. refl)
+    and (λ v u. refl)
+    and (λ v u. refl)
+    and above-right M.Rtp 0x22E (λ z. refl)
+    and (λ v u. refl)
+    and (λ v u. refl)
+    and above-right M.Jif 0x23E (λ z. refl)
+    and above-right M.Dtn 0x20A (λ z. refl)
+    and (λ v u. refl)
+    and tt
 
 negative-right : Each (RightFor 0x10000 NotZero) negative
-negative-right = (
-  below-right M.Ps 0x256 (λ z. refl),
-  (
-    below-right M.Fs 0x266 (λ z. refl),
-    (
-      below-right M.Sca 0x26E (λ z. refl),
-      (
-        below-right M.Aut 0x296 (λ z. refl),
-        (
-          below-right M.Tps 0x2A6 (λ z. refl),
-          (
-            below-right M.Rtp 0x22E (λ z. refl),
-            (
-              below-right M.Jif 0x23E (λ z. refl),
-              (
-                below-right M.Dtn 0x20A (λ z. refl),
-                tt,
-              ),
-            ),
-          ),
-        ),
-      ),
-    ),
-  ),
-)
+negative-right =
+    below-right M.Ps 0x256 (λ z. refl)
+    and below-right M.Fs 0x266 (λ z. refl)
+    and below-right M.Sca 0x26E (λ z. refl)
+    and below-right M.Aut 0x296 (λ z. refl)
+    and below-right M.Tps 0x2A6 (λ z. refl)
+    and below-right M.Rtp 0x22E (λ z. refl)
+    and below-right M.Jif 0x23E (λ z. refl)
+    and below-right M.Dtn 0x20A (λ z. refl)
+    and tt
 
 pub decodes : (n : ℕ) → Right n (decoded n)
 unfolding decoded
-decodes n = go (eqb (n / 0x10000000) 1) refl (eqb (n / 0x10000 % 0x10) 0) refl (eqb (n / 0x10000 % 0x10) 1) refl (eqb (n % 0x10000) 0) refl
+decodes n =
+    cases (eqb (n / 0x10000000) 1) (λ e. rw e (note-right n (eqb-true (n / 0x10000000) 1 e)))
+    (λ e. rw e
+    (cases (eqb sign 0)
+    (λ p. rw p (command 0 plain Any (omega (arith, split, eqb-true sign 0 p)) tt (found (RightFor 0 Any) plain id plain-right)))
+    (λ p. rw p
+    (cases (eqb sign 1)
+    (λ m. rw m
+    (cases (eqb v 0) (λ z. rw z (refl, refl))
+    (λ z. rw z
+    (command 0x10000 negative NotZero (omega (arith, split, eqb-true sign 1 m)) (eqb-false v 0 z) (found (RightFor 0x10000 NotZero) negative id negative-right)))))
+    (λ m. rw m (refl, refl))))))
   where
     id : ℕ
     id = n / 0x100000
 
-    split : n ≡ id * 0x100000 + n / 0x10000 % 0x10 * 0x10000 + n % 0x10000
+    sign : ℕ
+    sign = n / 0x10000 % 0x10
+
+    v : ℕ
+    v = n % 0x10000
+
+    split : n ≡ id * 0x100000 + sign * 0x10000 + v
     split = let above : n / 0x100000 ≡ n / 0x10000 / 0x10 = omega arith in omega arith
 
-    command : (sign : ℕ) (table : List (Entry (ℕ → Outcome Meaning))) (P : ℕ → Type 0) → id * 0x100000 + sign + n % 0x10000 ≡ n → P (n % 0x10000)
-        → Found (RightFor sign P) id (lookup table id) → Right n (commandAt table id (n % 0x10000))
-    command sign table P e p h =
-        subst (λ (k : ℕ). Right k (commandAt table id (n % 0x10000))) e
-        (after-found (RightFor sign P) (λ m i. codeOf m ≡ i) id (id * 0x100000 + sign + n % 0x10000) (lookup table id) (λ m. m (n % 0x10000)) h
-        (λ m right. right (n % 0x10000) p))
-
-    go : (note : Bool) → eqb (n / 0x10000000) 1 ≡ note → (plus : Bool) → eqb (n / 0x10000 % 0x10) 0 ≡ plus → (minus : Bool) → eqb (n / 0x10000 % 0x10) 1 ≡ minus → (nothing : Bool) → eqb (n % 0x10000) 0 ≡ nothing
-        → Right n (cond note (noteAt n) (cond plus (commandAt plain id (n % 0x10000)) (cond minus (cond nothing none (commandAt negative id (n % 0x10000))) none)))
-    go true e plus ep minus em nothing en = note-right n (eqb-true (n / 0x10000000) 1 e)
-    go false e true ep minus em nothing en =
-        command 0 plain Any (omega (arith, split, eqb-true (n / 0x10000 % 0x10) 0 ep)) tt (found (RightFor 0 Any) plain id plain-right)
-    go false e false ep true em true en = (refl, refl)
-    go false e false ep true em false en =
-        command 0x10000 negative NotZero (omega (arith, split, eqb-true (n / 0x10000 % 0x10) 1 em)) (eqb-false (n % 0x10000) 0 en) (found (RightFor 0x10000 NotZero) negative id negative-right)
-    go false e false ep false em nothing en = (refl, refl)
+    command : (before : ℕ) (table : List (Entry (ℕ → Outcome Meaning))) (P : ℕ → Type 0) → id * 0x100000 + before + v ≡ n → P v
+        → Found (RightFor before P) id (lookup table id) → Right n (commandAt table id v)
+    command before table P e p h =
+        subst (λ (k : ℕ). Right k (commandAt table id v)) e
+        (after-found (RightFor before P) (Is codeOf) id (id * 0x100000 + before + v) (lookup table id) (λ m. m v) h (λ m right. right v p))
