@@ -1,5 +1,5 @@
-//! Links the library's static archive, libturftangle.a, from ../target/staticlib or from the folder that
-//! TURFTANGLE_LIB_DIR names.
+//! Links the library's static archive, libturftangle.a, from ../target/staticlib or from the folder
+//! that TURFTANGLE_LIB_DIR names.
 
 use std::path::PathBuf;
 use std::{env, process};

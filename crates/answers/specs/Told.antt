@@ -1,5 +1,5 @@
--- An answer tells a value from a refusal: its value is below 2^32, and of a refusal the number is above 0 and the
--- place below 2^32. So no value can be taken for a refusal, and no refusal for a value.
+-- An answer tells a value from a refusal: a value is below 2^32, and of a refusal the number is above 0 and
+-- the place below 2^32. So no value can be taken for a refusal, and no refusal for a value.
 -- Told             so for an outcome and the value that a call answers
 -- value-apart, refusal-apart   the two halves of an answer are 0 and the value, or the number and the place
 -- Low              a refusal with a number above 0 and a place in a file of at most 65,536 bytes

@@ -1,5 +1,5 @@
--- What the code that makes the list of the voices' numbers may count on, for its contract: places and lengths in a
--- file that was accepted are small.
+-- What the code that makes the list of the voices' numbers may count on, for its contract:
+-- places and lengths in a file that was accepted are small.
 -- NarrowVoice, NarrowSong   a voice; the voices of a song
 use Prim.Native.Nat.{_≤_}
 use Rattle.mus.specs.declared.Voice.{Voice}

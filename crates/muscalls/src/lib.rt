@@ -1,5 +1,5 @@
-// The calls of MUS files for C and Rust, with answers as docs/INTERFACE.md fixes them. Each answers for every file and
-// every number; none has a requires.
+// The calls of MUS files for C and Rust, with answers as docs/INTERFACE.md fixes them.
+// Each answers for every file and every number; none has a requires.
 ghost use mathlib.Core.Path.{_≡_};
 ghost use lib.ListN.{length};
 ghost use Rattle.mus.specs.Song.{musOutcome};

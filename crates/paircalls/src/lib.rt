@@ -1,5 +1,5 @@
-// The calls of pairs for C and Rust, with answers as docs/INTERFACE.md fixes them. Each answers for every number; none
-// has a requires.
+// The calls of pairs for C and Rust, with answers as docs/INTERFACE.md fixes them.
+// Each answers for every number; none has a requires.
 ghost use mathlib.Core.Path.{_≡_};
 ghost use Rattle.pair.specs.Pairs.{meaningOf};
 ghost use Rattle.codes.specs.Coding.{codeOf};
@@ -12,8 +12,8 @@ use meaning::Spelling;
 pub fn read(first: u8, second: u8) -> u64
     ensures { λ r. ⌜ r ≡ packed codeOf (meaningOf first second) ⌝ }
 {
-    // as pair::read does; a note and a command that come to one place here, and not there, are not packed into one
-    // value first
+    // As pair::read does, but each goes to its own code here: a note and a command are not first packed into
+    // one value.
     if first % 4 == 0 {
         return codes::notes::note_code(note::read_note(first, second));
     }

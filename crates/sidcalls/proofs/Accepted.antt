@@ -1,14 +1,14 @@
 -- What acceptance shows of the numbers that are handed out: places and lengths are small.
 -- narrow-header   so of a PSID or RSID file
--- fits            such a number fits 32 bits
-use Prim.Native.Nat.{ℕ, _+_, _≤_, _<_, _^_}
-use mathlib.Core.Path.{_≡_, refl, sym, subst}
+use Prim.Native.Nat.{ℕ, _+_, _≤_}
+use mathlib.Core.Path.{_≡_, sym, subst}
 use mathlib.Core.Bool.{Bool, true, false, not, _&&_, _||_, cond}
 use mathlib.Core.List.{List}
 use native.Mathlib.Omega.{arith}
 use lib.Dec.{eqb, lit≤}
 use lib.ListN.{take, drop, length-take}
 use borrow.Author.Tests.{eqb-true}
+use Rattle.logic.specs.Cases.{cases}
 use Rattle.fields.specs.Laws.{length-before}
 use Rattle.refusals.specs.Numbers.Outcome.{accepted}
 use Rattle.sidheader.specs.declared.Fields.{Fields}
@@ -26,15 +26,15 @@ use Rattle.sidcalls.specs.Bounds.{NarrowSpan, Narrow}
 offset-low : (x : Fields) (r : Bool) → not (eqb (x .version) 1 || eqb (x .version) 2) || r && not (eqb (x .version) 2) ≡ false
     → eqb (x .version) 1 && not (eqb (x .offset) 0x76) || eqb (x .version) 2 && not (eqb (x .offset) 0x7C) ≡ false
     → x .offset ≤ 0x7C
-offset-low x r v4 o4 = go (eqb (x .version) 1) (eqb (x .version) 2) (eqb (x .offset) 0x76) refl (eqb (x .offset) 0x7C) refl v4 o4
+offset-low x r v4 o4 =
+    cases (eqb (x .offset) 0x76) (λ a. omega (arith, eqb-true (x .offset) 0x76 a))
+    (λ a. cases (eqb (x .offset) 0x7C) (λ b. omega (arith, eqb-true (x .offset) 0x7C b))
+    (λ b. absurd (none (eqb (x .version) 1) (eqb (x .version) 2) v4 (rw (a, b) at o4))))
   where
-    go : (one two a : Bool) → eqb (x .offset) 0x76 ≡ a → (b : Bool) → eqb (x .offset) 0x7C ≡ b
-        → not (one || two) || r && not two ≡ false → one && not a || two && not b ≡ false → x .offset ≤ 0x7C
-    go true two true ea b eb v o = omega (arith, eqb-true (x .offset) 0x76 ea)
-    go true two false ea b eb v o = absurd (let z : _≡_ {A = ℕ} 0 1 = cc in omega arith)
-    go false true a ea true eb v o = omega (arith, eqb-true (x .offset) 0x7C eb)
-    go false true a ea false eb v o = absurd (let z : _≡_ {A = ℕ} 0 1 = cc in omega arith)
-    go false false a ea b eb v o = absurd (let z : _≡_ {A = ℕ} 0 1 = cc in omega arith)
+    none : (one two : Bool) → not (one || two) || r && not two ≡ false → one && true || two && true ≡ false → ⊥
+    none true two v o = let z : _≡_ {A = ℕ} 0 1 = cc in omega arith
+    none false true v o = let z : _≡_ {A = ℕ} 0 1 = cc in omega arith
+    none false false v o = let z : _≡_ {A = ℕ} 0 1 = cc in omega arith
 
 text-narrow : (f : List ℕ) (at : ℕ) → at ≤ 65538 → NarrowSpan (spanAt f at)
 text-narrow f at h =
@@ -58,6 +58,3 @@ narrow-header f h e =
     go : (b : Bool) → fieldsOf f .offset ≤ 0x7C → cond b (after f (fieldsOf f)) (whole (fieldsOf f)) .from ≤ 65538
     go true l = omega arith
     go false l = omega arith
-
-pub fits : {n : ℕ} → n ≤ 65538 → n < 2 ^ 32
-fits h = omega arith

@@ -1,5 +1,5 @@
 -- Each call of a PSID or RSID file tells a value from a refusal (`Told`).
--- read-told, fields-told, load-told, speed-told   so for tt_sid_read, tt_sid_fields, tt_sid_load and tt_sid_speed
+-- read-told, fields-told, load-told, speed-told   so for tt_sid_read, _fields, _load and _speed
 use Prim.Native.Nat.{ℕ, _<_}
 use mathlib.Core.Path.{_≡_}
 use mathlib.Core.Bool.{_||_}

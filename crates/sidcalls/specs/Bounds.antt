@@ -1,5 +1,5 @@
--- What the code that makes the list of a header's numbers may count on, for its contract: places and lengths in a
--- file that was accepted are small.
+-- What the code that makes the list of a header's numbers may count on, for its contract:
+-- places and lengths in a file that was accepted are small.
 -- NarrowSpan, Narrow   a part of a file; the parts of a header
 use Prim.Native.Nat.{_≤_}
 use Rattle.fields.specs.declared.Span.{Span}

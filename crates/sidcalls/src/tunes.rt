@@ -1,5 +1,6 @@
 // A header's fields as a list of numbers.
 ghost use mathlib.Core.Path.{_≡_};
+ghost use lib.ListN.{drop};
 ghost use Rattle.sidcalls.specs.Lists.{kindNumber, flagNumber, headerNumbers};
 ghost use Rattle.sidcalls.specs.Bounds.{Narrow};
 use sid::Header;
@@ -20,6 +21,23 @@ fn flag_number(set: bool) -> u32
     if set { 1 } else { 0 }
 }
 
+// Where the texts and the payload stand and how long they are: the last eight of the fields.
+fn part_numbers(h: Header) -> [u32; 8]
+    requires { ⌜ Narrow h ⌝ }
+    ensures { λ r. ⌜ r ≡ drop 13 (headerNumbers h) ⌝ }
+{
+    [
+        h.title.from as u32,
+        h.title.len as u32,
+        h.author.from as u32,
+        h.author.len as u32,
+        h.released.from as u32,
+        h.released.len as u32,
+        h.payload.from as u32,
+        h.payload.len as u32,
+    ]
+}
+
 // internal: the fields in the order of docs/INTERFACE.md.
 pub fn header_numbers(h: Header) -> [u32; 21]
     requires { ⌜ Narrow h ⌝ }
@@ -28,6 +46,7 @@ pub fn header_numbers(h: Header) -> [u32; 21]
     let kind = h.kind;
     let kind_is = kind_number(kind);
     let basic_is = flag_number(h.basic);
+    let parts = part_numbers(h);
     [
         kind_is,
         h.version as u32,
@@ -42,13 +61,13 @@ pub fn header_numbers(h: Header) -> [u32; 21]
         h.model as u32,
         h.page as u32,
         h.pages as u32,
-        h.title.from as u32,
-        h.title.len as u32,
-        h.author.from as u32,
-        h.author.len as u32,
-        h.released.from as u32,
-        h.released.len as u32,
-        h.payload.from as u32,
-        h.payload.len as u32,
+        parts[0],
+        parts[1],
+        parts[2],
+        parts[3],
+        parts[4],
+        parts[5],
+        parts[6],
+        parts[7],
     ]
 }

@@ -1,5 +1,5 @@
-// The library for C and Rust: eight functions on numbers and lists, as docs/INTERFACE.md fixes them. Each answers for
-// every file and every number; none has a requires.
+// The library for C and Rust: eight functions on numbers and lists, as docs/INTERFACE.md fixes them.
+// Each answers for every file and every number; none has a requires.
 ghost use mathlib.Core.Path.{_≡_};
 ghost use lib.ListN.{length};
 ghost use Rattle.sid.specs.Answers.{sidOutcome};
@@ -57,8 +57,8 @@ pub extern "C" fn tt_mus_accept(file: &[u8], out: &mut [u32]) -> u64
     muscalls::accept(file, out)
 }
 
-// Lists the events of a voice of a MUS file from event number first on: how many cells of each list are filled, or
-// 41, 42, or the file's refusal.
+// Lists the events of a voice of a MUS file from event number first on: how many cells of each list are
+// filled, or 41, 42, or the file's refusal.
 #[no_mangle]
 pub extern "C" fn tt_mus_list(
     file: &[u8],
