@@ -1,14 +1,16 @@
 -- Each meaning that some pair has, has a code of 32 bits, and the code's meaning is that one.
 -- plain-code, negative-code   the code of a command's number and value, taken apart
--- count-coded, signed-coded, note-coded   a command without a sign, with one; a note
+-- room                        whether a code's digits have room for a command's number and its values
+-- count-coded, fixed-coded, signed-coded, note-coded   a command of any value, of one of few, with a sign; a note
 -- coded                       so for every meaning that some pair has
 use Prim.Native.Nat.{ℕ, _+_, _*_, _-_, _/_, _%_, _≤_, _<_}
 use mathlib.Core.Path.{_≡_, refl, _∙_, ap}
-use mathlib.Core.Bool.{Bool, true, false}
+use mathlib.Core.Bool.{Bool, true, false, _&&_}
 use native.Mathlib.Omega.{arith}
-use lib.Dec.{lit≤, lit<}
-use lib.IntN.{ℤ, pos, negsuc}
-use borrow.Author.Tests.{ne-eqb}
+use lib.Dec.{leb, ltb, lit≤, lit<}
+use lib.IntN.{ℤ, pos, negsuc, subℕ}
+use borrow.Author.Tests.{ne-eqb, leb-true, ltb-true}
+use Rattle.logic.specs.Truth.{both}
 use Rattle.refusals.specs.Numbers.Outcome.{accepted}
 use Rattle.meaning.specs.declared.Duration.{Duration}
 use Rattle.meaning.specs.declared.Duration.the-variants.{Whole, Half, Quarter, Eighth, Sixteenth, ThirtySecond, SixtyFourth, UtilityDuration, UtilityVoice, AbsolutePitch}
@@ -57,22 +59,42 @@ module _ (id v : ℕ) (least : 0x200 ≤ id) (most : id < 0x400) (small : v ≤ 
       let above : n / 0x10000 ≡ id * 0x10 + 1 = omega arith in
       rw (ne-eqb (n / 0x10000000) 1 (λ e. omega arith), above, digit-1 id, at, value, ne-eqb v 0 h)
 
-pub count-coded : (m : Meaning) (id v : ℕ) → 0x200 ≤ id → id < 0x400 → v ≤ 65535 → codeOf m ≡ count id v → commandAt plain id v ≡ accepted m → Coded m
-count-coded m id v least most small is means =
-    record { low = omega (arith, is); back = ap decoded is ∙ plain-code id v least most small ∙ means }
+-- a code's digits have room for a command's number and for values up to this one
+abbrev room : ℕ → ℕ → Bool
+room id most = leb 0x200 id && (ltb id 0x400 && leb most 65535)
 
-pub signed-coded : (m : ℤ → Meaning) (id : ℕ) (z : ℤ) → 0x200 ≤ id → id < 0x400 → Small z → ((y : ℤ) → codeOf (m y) ≡ signed id y)
+roomy : (id most : ℕ) → room id most ≡ true → (0x200 ≤ id) × (id < 0x400) × (most ≤ 65535)
+roomy id most e =
+    let low = both (leb 0x200 id) (ltb id 0x400 && leb most 65535) e in
+    let high = both (ltb id 0x400) (leb most 65535) (low .1) in
+    (leb-true 0x200 id (low .0), ltb-true id 0x400 (high .0), leb-true most 65535 (high .1))
+
+pub count-coded : {m : Meaning} {most : ℕ} (id v : ℕ) → v ≤ most → room id most ≡ true → codeOf m ≡ count id v → commandAt plain id v ≡ accepted m → Coded m
+count-coded {m} {most} id v small fits is means =
+    let r = roomy id most fits in
+    record { low = omega (arith, is); back = ap decoded is ∙ plain-code id v (r .0) (r .1) (omega arith) ∙ means }
+
+-- a command whose value is one of few, or none
+fixed-coded : {m : Meaning} (id v : ℕ) → room id v ≡ true → codeOf m ≡ count id v → commandAt plain id v ≡ accepted m → Coded m
+fixed-coded id v = count-coded {most = v} id v (omega arith)
+
+pub signed-coded : (m : ℤ → Meaning) (id : ℕ) (z : ℤ) → Small z → room id 0 ≡ true → ((y : ℤ) → codeOf (m y) ≡ signed id y)
     → ((v : ℕ) → commandAt plain id v ≡ above m v) → ((v : ℕ) → commandAt negative id v ≡ below m v) → Coded (m z)
-signed-coded m id (pos n) least most small is plus minus =
+signed-coded m id (pos n) small fits is plus minus =
+    let r = roomy id 0 fits in
     record {
       low = omega (arith, is (pos n));
-      back = ap decoded (is (pos n)) ∙ plain-code id n least most small ∙ plus n ∙ ap (λ (y : ℤ). accepted (m y)) (up n);
+      back = ap decoded (is (pos n)) ∙ plain-code id n (r .0) (r .1) small ∙ plus n ∙ ap (λ (y : ℤ). accepted (m y)) (up n);
     }
-signed-coded m id (negsuc n) least most small is plus minus =
-    let back : n + 1 - 1 ≡ n = omega arith in
+signed-coded m id (negsuc n) small fits is plus minus =
+    let r = roomy id 0 fits in
+    let last : n + 1 - 1 ≡ n = omega arith in
+    let value : subℕ 0 (n + 1) ≡ negsuc n = down (n + 1) (λ e. omega arith) ∙ ap negsuc last in
     record {
       low = omega (arith, is (negsuc n));
-      back = ap decoded (is (negsuc n)) ∙ negative-code id (n + 1) least most small (λ e. omega arith) ∙ minus (n + 1) ∙ ap (λ (y : ℤ). accepted (m y)) (down (n + 1) (λ e. omega arith) ∙ ap negsuc back);
+      back =
+          ap decoded (is (negsuc n)) ∙ negative-code id (n + 1) (r .0) (r .1) small (λ e. omega arith) ∙ minus (n + 1)
+          ∙ ap (λ (y : ℤ). accepted (m y)) value;
     }
 
 duration-back : (d : Duration) → (lookup durations (durationDigits d) ≡ accepted d) × (durationDigits d ≤ 255)
@@ -141,60 +163,60 @@ note-coded n small =
 
 pub coded : (m : Meaning) → Written m → Coded m
 coded (M.Note n) w = note-coded n (tone-small n (w .bytes))
-coded (M.Dcy v) w = count-coded (M.Dcy v) 0x300 v (lit≤ tt) (lit< tt) (omega (arith, counted-small v 15 0x00 16 (w .bytes))) refl refl
-coded (M.Rup v) w = count-coded (M.Rup v) 0x301 v (lit≤ tt) (lit< tt) (omega (arith, counted-small v 31 0x01 8 (w .bytes))) refl refl
-coded (M.Cal v) w = count-coded (M.Cal v) 0x302 v (lit≤ tt) (lit< tt) (omega (arith, phrase-small v 0x02 0x8B (w .bytes))) refl refl
-coded (M.Bmp Up) w = count-coded (M.Bmp Up) 0x303 0 (lit≤ tt) (lit< tt) (lit≤ tt) refl refl
-coded (M.Bmp Down) w = count-coded (M.Bmp Down) 0x303 1 (lit≤ tt) (lit< tt) (lit≤ tt) refl refl
-coded (M.Flt false) w = count-coded (M.Flt false) 0x313 0 (lit≤ tt) (lit< tt) (lit≤ tt) refl refl
-coded (M.Flt true) w = count-coded (M.Flt true) 0x313 1 (lit≤ tt) (lit< tt) (lit≤ tt) refl refl
-coded (M.Rng false) w = count-coded (M.Rng false) 0x323 0 (lit≤ tt) (lit< tt) (lit≤ tt) refl refl
-coded (M.Rng true) w = count-coded (M.Rng true) 0x323 1 (lit≤ tt) (lit< tt) (lit≤ tt) refl refl
-coded (M.Snc false) w = count-coded (M.Snc false) 0x333 0 (lit≤ tt) (lit< tt) (lit≤ tt) refl refl
-coded (M.Snc true) w = count-coded (M.Snc true) 0x333 1 (lit≤ tt) (lit< tt) (lit≤ tt) refl refl
-coded (M.Fx false) w = count-coded (M.Fx false) 0x343 0 (lit≤ tt) (lit< tt) (lit≤ tt) refl refl
-coded (M.Fx true) w = count-coded (M.Fx true) 0x343 1 (lit≤ tt) (lit< tt) (lit≤ tt) refl refl
-coded (M.Def v) w = count-coded (M.Def v) 0x306 v (lit≤ tt) (lit< tt) (omega (arith, phrase-small v 0x06 0x83 (w .bytes))) refl refl
-coded (M.Atk v) w = count-coded (M.Atk v) 0x304 v (lit≤ tt) (lit< tt) (omega (arith, counted-small v 15 0x04 8 (w .bytes))) refl refl
-coded (M.Sus v) w = count-coded (M.Sus v) 0x384 v (lit≤ tt) (lit< tt) (omega (arith, counted-small v 15 0x84 8 (w .bytes))) refl refl
-coded (M.Lfo v) w = count-coded (M.Lfo v) 0x363 v (lit≤ tt) (lit< tt) (omega (arith, counted-small v 1 0x63 8 (w .bytes))) refl refl
-coded (M.Pv false) w = count-coded (M.Pv false) 0x373 0 (lit≤ tt) (lit< tt) (lit≤ tt) refl refl
-coded (M.Pv true) w = count-coded (M.Pv true) 0x373 1 (lit≤ tt) (lit< tt) (lit≤ tt) refl refl
-coded (M.Rdn v) w = count-coded (M.Rdn v) 0x305 v (lit≤ tt) (lit< tt) (omega (arith, counted-small v 31 0x05 8 (w .bytes))) refl refl
-coded (M.Wav v) w = count-coded (M.Wav v) 0x307 v (lit≤ tt) (lit< tt) (omega (arith, counted-small v 7 0x07 32 (w .bytes))) refl refl
-coded (M.Fm v) w = count-coded (M.Fm v) 0x317 v (lit≤ tt) (lit< tt) (omega (arith, counted-small v 7 0x17 32 (w .bytes))) refl refl
-coded (M.Rls v) w = count-coded (M.Rls v) 0x308 v (lit≤ tt) (lit< tt) (omega (arith, counted-small v 15 0x08 16 (w .bytes))) refl refl
-coded (M.Res v) w = count-coded (M.Res v) 0x30A v (lit≤ tt) (lit< tt) (omega (arith, counted-small v 15 0x0A 16 (w .bytes))) refl refl
-coded (M.ThreeOff false) w = count-coded (M.ThreeOff false) 0x35B 0 (lit≤ tt) (lit< tt) (lit≤ tt) refl refl
-coded (M.ThreeOff true) w = count-coded (M.ThreeOff true) 0x35B 1 (lit≤ tt) (lit< tt) (lit≤ tt) refl refl
-coded (M.Vol v) w = count-coded (M.Vol v) 0x30E v (lit≤ tt) (lit< tt) (omega (arith, counted-small v 15 0x0E 16 (w .bytes))) refl refl
-coded M.Tal w = count-coded M.Tal 0x30F 0 (lit≤ tt) (lit< tt) (lit≤ tt) refl refl
-coded M.End w = count-coded M.End 0x32F 0 (lit≤ tt) (lit< tt) (lit≤ tt) refl refl
-coded M.Hlt w = count-coded M.Hlt 0x34F 0 (lit≤ tt) (lit< tt) (lit≤ tt) refl refl
-coded (M.Src v) w = count-coded (M.Src v) 0x31F v (lit≤ tt) (lit< tt) (omega (arith, counted-small v 2 0x1F 32 (w .bytes))) refl refl
-coded (M.Dst v) w = count-coded (M.Dst v) 0x38F v (lit≤ tt) (lit< tt) (omega (arith, destination-small v (w .bytes))) refl refl
-coded (M.Pw v) w = count-coded (M.Pw v) 0x202 v (lit≤ tt) (lit< tt) (omega (arith, joined-small v 4095 0x02 16 (w .bytes))) refl refl
-coded (M.Tem v) w = count-coded (M.Tem v) 0x206 v (lit≤ tt) (lit< tt) (omega (arith, tempo-small v (w .bytes))) refl refl
-coded (M.Utl v) w = count-coded (M.Utl v) 0x216 v (lit≤ tt) (lit< tt) (omega (arith, alone-small v 0x16 255 (w .bytes))) refl refl
-coded (M.Pnt v) w = count-coded (M.Pnt v) 0x226 v (lit≤ tt) (lit< tt) (omega (arith, alone-small v 0x26 255 (w .bytes))) refl refl
-coded (M.Hed v) w = count-coded (M.Hed v) 0x236 v (lit≤ tt) (lit< tt) (omega (arith, alone-small v 0x36 255 (w .bytes))) refl refl
-coded (M.Flg v) w = count-coded (M.Flg v) 0x246 v (lit≤ tt) (lit< tt) (omega (arith, alone-small v 0x46 255 (w .bytes))) refl refl
-coded (M.Ps z) w = signed-coded (λ y. M.Ps y) 0x256 z (lit≤ tt) (lit< tt) (byte-small 0x56 z 128 127 (lit≤ tt) (lit≤ tt) (w .bytes)) (λ y. refl) (λ v. refl) (λ v. refl)
-coded (M.Fs z) w = signed-coded (λ y. M.Fs y) 0x266 z (lit≤ tt) (lit< tt) (byte-small 0x66 z 128 127 (lit≤ tt) (lit≤ tt) (w .bytes)) (λ y. refl) (λ v. refl) (λ v. refl)
-coded (M.Sca z) w = signed-coded (λ y. M.Sca y) 0x26E z (lit≤ tt) (lit< tt) (byte-small 0x6E z 7 7 (lit≤ tt) (lit≤ tt) (w .bytes)) (λ y. refl) (λ v. refl) (λ v. refl)
-coded (M.Vdp v) w = count-coded (M.Vdp v) 0x276 v (lit≤ tt) (lit< tt) (omega (arith, alone-small v 0x76 127 (w .bytes))) refl refl
-coded (M.Vrt v) w = count-coded (M.Vrt v) 0x286 v (lit≤ tt) (lit< tt) (omega (arith, alone-small v 0x86 255 (w .bytes))) refl refl
-coded (M.Aut z) w = signed-coded (λ y. M.Aut y) 0x296 z (lit≤ tt) (lit< tt) (byte-small 0x96 z 128 127 (lit≤ tt) (lit≤ tt) (w .bytes)) (λ y. refl) (λ v. refl) (λ v. refl)
-coded (M.Tps z) w = signed-coded (λ y. M.Tps y) 0x2A6 z (lit≤ tt) (lit< tt) (tps-small z (w .bytes)) (λ y. refl) (λ v. refl) (λ v. refl)
-coded (M.Aux v) w = count-coded (M.Aux v) 0x2B6 v (lit≤ tt) (lit< tt) (omega (arith, alone-small v 0xB6 255 (w .bytes))) refl refl
-coded (M.Pvd v) w = count-coded (M.Pvd v) 0x2C6 v (lit≤ tt) (lit< tt) (omega (arith, alone-small v 0xC6 127 (w .bytes))) refl refl
-coded (M.Pvr v) w = count-coded (M.Pvr v) 0x2D6 v (lit≤ tt) (lit< tt) (omega (arith, alone-small v 0xD6 127 (w .bytes))) refl refl
-coded (M.Max v) w = count-coded (M.Max v) 0x2E6 v (lit≤ tt) (lit< tt) (omega (arith, alone-small v 0xE6 255 (w .bytes))) refl refl
-coded (M.Utv v) w = count-coded (M.Utv v) 0x2F6 v (lit≤ tt) (lit< tt) (omega (arith, alone-small v 0xF6 255 (w .bytes))) refl refl
-coded (M.Fc v) w = count-coded (M.Fc v) 0x20E v (lit≤ tt) (lit< tt) (omega (arith, alone-small v 0x0E 255 (w .bytes))) refl refl
-coded (M.Rtp z) w = signed-coded (λ y. M.Rtp y) 0x22E z (lit≤ tt) (lit< tt) (rtp-small z (w .bytes)) (λ y. refl) (λ v. refl) (λ v. refl)
-coded (M.Hld v) w = count-coded (M.Hld v) 0x24E v (lit≤ tt) (lit< tt) (omega (arith, alone-small v 0x4E 255 (w .bytes))) refl refl
-coded (M.Ms v) w = count-coded (M.Ms v) 0x21E v (lit≤ tt) (lit< tt) (omega (arith, joined-small v 1023 0x1E 64 (w .bytes))) refl refl
-coded (M.Jif z) w = signed-coded (λ y. M.Jif y) 0x23E z (lit≤ tt) (lit< tt) (jif-small z (w .bytes)) (λ y. refl) (λ v. refl) (λ v. refl)
-coded (M.Dtn z) w = signed-coded (λ y. M.Dtn y) 0x20A z (lit≤ tt) (lit< tt) (dtn-small z (w .bytes)) (λ y. refl) (λ v. refl) (λ v. refl)
-coded (M.Por v) w = count-coded (M.Por v) 0x203 v (lit≤ tt) (lit< tt) (omega (arith, joined-small v 16383 0x03 4 (w .bytes))) refl refl
+coded (M.Dcy v) w = count-coded 0x300 v (counted-small v 15 0x00 16 (w .bytes)) refl refl refl
+coded (M.Rup v) w = count-coded 0x301 v (counted-small v 31 0x01 8 (w .bytes)) refl refl refl
+coded (M.Cal v) w = count-coded 0x302 v (phrase-small v 0x02 0x8B (w .bytes)) refl refl refl
+coded (M.Bmp Up) w = fixed-coded 0x303 0 refl refl refl
+coded (M.Bmp Down) w = fixed-coded 0x303 1 refl refl refl
+coded (M.Flt false) w = fixed-coded 0x313 0 refl refl refl
+coded (M.Flt true) w = fixed-coded 0x313 1 refl refl refl
+coded (M.Rng false) w = fixed-coded 0x323 0 refl refl refl
+coded (M.Rng true) w = fixed-coded 0x323 1 refl refl refl
+coded (M.Snc false) w = fixed-coded 0x333 0 refl refl refl
+coded (M.Snc true) w = fixed-coded 0x333 1 refl refl refl
+coded (M.Fx false) w = fixed-coded 0x343 0 refl refl refl
+coded (M.Fx true) w = fixed-coded 0x343 1 refl refl refl
+coded (M.Def v) w = count-coded 0x306 v (phrase-small v 0x06 0x83 (w .bytes)) refl refl refl
+coded (M.Atk v) w = count-coded 0x304 v (counted-small v 15 0x04 8 (w .bytes)) refl refl refl
+coded (M.Sus v) w = count-coded 0x384 v (counted-small v 15 0x84 8 (w .bytes)) refl refl refl
+coded (M.Lfo v) w = count-coded 0x363 v (counted-small v 1 0x63 8 (w .bytes)) refl refl refl
+coded (M.Pv false) w = fixed-coded 0x373 0 refl refl refl
+coded (M.Pv true) w = fixed-coded 0x373 1 refl refl refl
+coded (M.Rdn v) w = count-coded 0x305 v (counted-small v 31 0x05 8 (w .bytes)) refl refl refl
+coded (M.Wav v) w = count-coded 0x307 v (counted-small v 7 0x07 32 (w .bytes)) refl refl refl
+coded (M.Fm v) w = count-coded 0x317 v (counted-small v 7 0x17 32 (w .bytes)) refl refl refl
+coded (M.Rls v) w = count-coded 0x308 v (counted-small v 15 0x08 16 (w .bytes)) refl refl refl
+coded (M.Res v) w = count-coded 0x30A v (counted-small v 15 0x0A 16 (w .bytes)) refl refl refl
+coded (M.ThreeOff false) w = fixed-coded 0x35B 0 refl refl refl
+coded (M.ThreeOff true) w = fixed-coded 0x35B 1 refl refl refl
+coded (M.Vol v) w = count-coded 0x30E v (counted-small v 15 0x0E 16 (w .bytes)) refl refl refl
+coded M.Tal w = fixed-coded 0x30F 0 refl refl refl
+coded M.End w = fixed-coded 0x32F 0 refl refl refl
+coded M.Hlt w = fixed-coded 0x34F 0 refl refl refl
+coded (M.Src v) w = count-coded 0x31F v (counted-small v 2 0x1F 32 (w .bytes)) refl refl refl
+coded (M.Dst v) w = count-coded 0x38F v (destination-small v (w .bytes)) refl refl refl
+coded (M.Pw v) w = count-coded 0x202 v (joined-small v 4095 0x02 16 (w .bytes)) refl refl refl
+coded (M.Tem v) w = count-coded 0x206 v (tempo-small v (w .bytes)) refl refl refl
+coded (M.Utl v) w = count-coded 0x216 v (alone-small v 0x16 255 (w .bytes)) refl refl refl
+coded (M.Pnt v) w = count-coded 0x226 v (alone-small v 0x26 255 (w .bytes)) refl refl refl
+coded (M.Hed v) w = count-coded 0x236 v (alone-small v 0x36 255 (w .bytes)) refl refl refl
+coded (M.Flg v) w = count-coded 0x246 v (alone-small v 0x46 255 (w .bytes)) refl refl refl
+coded (M.Ps z) w = signed-coded M.Ps 0x256 z (byte-small 0x56 z 128 127 (lit≤ tt) (lit≤ tt) (w .bytes)) refl (λ y. refl) (λ v. refl) (λ v. refl)
+coded (M.Fs z) w = signed-coded M.Fs 0x266 z (byte-small 0x66 z 128 127 (lit≤ tt) (lit≤ tt) (w .bytes)) refl (λ y. refl) (λ v. refl) (λ v. refl)
+coded (M.Sca z) w = signed-coded M.Sca 0x26E z (byte-small 0x6E z 7 7 (lit≤ tt) (lit≤ tt) (w .bytes)) refl (λ y. refl) (λ v. refl) (λ v. refl)
+coded (M.Vdp v) w = count-coded 0x276 v (alone-small v 0x76 127 (w .bytes)) refl refl refl
+coded (M.Vrt v) w = count-coded 0x286 v (alone-small v 0x86 255 (w .bytes)) refl refl refl
+coded (M.Aut z) w = signed-coded M.Aut 0x296 z (byte-small 0x96 z 128 127 (lit≤ tt) (lit≤ tt) (w .bytes)) refl (λ y. refl) (λ v. refl) (λ v. refl)
+coded (M.Tps z) w = signed-coded M.Tps 0x2A6 z (tps-small z (w .bytes)) refl (λ y. refl) (λ v. refl) (λ v. refl)
+coded (M.Aux v) w = count-coded 0x2B6 v (alone-small v 0xB6 255 (w .bytes)) refl refl refl
+coded (M.Pvd v) w = count-coded 0x2C6 v (alone-small v 0xC6 127 (w .bytes)) refl refl refl
+coded (M.Pvr v) w = count-coded 0x2D6 v (alone-small v 0xD6 127 (w .bytes)) refl refl refl
+coded (M.Max v) w = count-coded 0x2E6 v (alone-small v 0xE6 255 (w .bytes)) refl refl refl
+coded (M.Utv v) w = count-coded 0x2F6 v (alone-small v 0xF6 255 (w .bytes)) refl refl refl
+coded (M.Fc v) w = count-coded 0x20E v (alone-small v 0x0E 255 (w .bytes)) refl refl refl
+coded (M.Rtp z) w = signed-coded M.Rtp 0x22E z (rtp-small z (w .bytes)) refl (λ y. refl) (λ v. refl) (λ v. refl)
+coded (M.Hld v) w = count-coded 0x24E v (alone-small v 0x4E 255 (w .bytes)) refl refl refl
+coded (M.Ms v) w = count-coded 0x21E v (joined-small v 1023 0x1E 64 (w .bytes)) refl refl refl
+coded (M.Jif z) w = signed-coded M.Jif 0x23E z (jif-small z (w .bytes)) refl (λ y. refl) (λ v. refl) (λ v. refl)
+coded (M.Dtn z) w = signed-coded M.Dtn 0x20A z (dtn-small z (w .bytes)) refl (λ y. refl) (λ v. refl) (λ v. refl)
+coded (M.Por v) w = count-coded 0x203 v (joined-small v 16383 0x03 4 (w .bytes)) refl refl refl

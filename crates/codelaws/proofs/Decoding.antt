@@ -2,12 +2,13 @@
 -- Is                         a value that has this number, by a function that gives a value's number
 -- Right                      what an outcome says of a number: its meaning's code is the number; if it is refused, it is 43
 -- Each, found                what holds of each entry of a table holds of what is found
--- duration-found to tone-found, note-right   a note, digit by digit
+-- after-part, after-entry    so of what comes after it
+-- durations-right to accidentals-right, tone-found, note-right   a note, digit by digit
 -- switched-right, bumped-right, bare-right, above-right, below-right   a command, by the kind of its value
 -- decodes                    so for every number
 use Prim.Native.Nat.{ℕ, _+_, _*_, _-_, _/_, _%_, _<_}
 use mathlib.Core.Path.{_≡_, refl, sym, _∙_, ap, subst}
-use mathlib.Core.Bool.{Bool, false, true}
+use mathlib.Core.Bool.{Bool, true, false}
 use mathlib.Core.List.{List, [], _∷_}
 use native.Mathlib.Omega.{arith}
 use native.Mathlib.Decide.{ℕ-discrete}
@@ -19,15 +20,10 @@ use Rattle.refusals.specs.Numbers.{Outcome}
 use Rattle.refusals.specs.Numbers.Outcome.{accepted, refused}
 use Rattle.meaning.specs.declared.Meaning.{Meaning}
 use Rattle.meaning.specs.declared.Meaning.the-variants as M
-use Rattle.meaning.specs.declared.Tone.the-variants.{Rest, Sounds}
 use Rattle.codes.specs.Coding.{durationDigits, shapeDigit, tieDigit, letterDigit, accidentalDigit, toneDigits, signed, codeOf}
-use Rattle.decoding.specs.Tables.{none, Entry, lookup, durations, shapes, ties, letters, accidentals, switched, bumped, bare, above, below, plain, negative}
+use Rattle.decoding.specs.Tables.{Entry, lookup, durations, shapes, ties, letters, accidentals, switched, bumped, bare, above, below, plain, negative}
 use Rattle.decoding.specs.Decoding.{after, toneAt, noteAt, commandAt, decoded}
-
--- the facts of a table's entries, one after the other
-infixr 40 _and_
-abbrev _and_ : {A B : Type 0} → A → B → A × B
-a and b = (a, b)
+use Rattle.codelaws.proofs.Facts.{_and_}
 
 abbrev Each : {A : Type 0} → (A → ℕ → Type 0) → List (Entry A) → Type 0
 Each P [] = Unit
@@ -51,36 +47,36 @@ found P [] k h = (refl, refl)
 found P (e ∷ es) k h =
     cases (eqb k (e .digits)) (λ q. rw q (subst (P (e .value)) (sym (eqb-true k (e .digits) q)) (h .0))) (λ q. rw q (found P es k (h .1)))
 
--- what comes after a part that was found
-after-found : {A B : Type 0} (P : A → ℕ → Type 0) (Q : B → ℕ → Type 0) (k n : ℕ) (o : Outcome A) (g : A → Outcome B) → Found P k o
-    → ((a : A) → P a k → Found Q n (g a)) → Found Q n (after o g)
-after-found P Q k n (accepted a) g p h = h a p
-after-found P Q k n (refused number place) g p h = p
+-- what comes after a part that was found; after one that a table has
+module _ {A B : Type 0} (P : A → ℕ → Type 0) (Q : B → ℕ → Type 0) where
+  after-part : (o : Outcome A) (k n : ℕ) (g : A → Outcome B) → Found P k o → ((a : A) → P a k → Found Q n (g a)) → Found Q n (after o g)
+  after-part (accepted a) k n g p h = h a p
+  after-part (refused number place) k n g p h = p
 
-module _ (k : ℕ) where
-  duration-found : Found (Is durationDigits) k (lookup durations k)
-  duration-found = found (Is durationDigits) durations k (refl and refl and refl and refl and refl and refl and refl and refl and refl and refl and tt)
+  after-entry : (es : List (Entry A)) (k n : ℕ) (g : A → Outcome B) → Each P es → ((a : A) → P a k → Found Q n (g a)) → Found Q n (after (lookup es k) g)
+  after-entry es k n g each h = after-part (lookup es k) k n g (found P es k each) h
 
-  shape-found : Found (Is shapeDigit) k (lookup shapes k)
-  shape-found = found (Is shapeDigit) shapes k (refl and refl and refl and refl and tt)
+durations-right : Each (Is durationDigits) durations
+durations-right = refl and refl and refl and refl and refl and refl and refl and refl and refl and refl and tt
 
-  tie-found : Found (Is tieDigit) k (lookup ties k)
-  tie-found = found (Is tieDigit) ties k (refl and refl and tt)
+shapes-right : Each (Is shapeDigit) shapes
+shapes-right = refl and refl and refl and refl and tt
 
-  letter-found : Found (Is letterDigit) k (lookup letters k)
-  letter-found = found (Is letterDigit) letters k (refl and refl and refl and refl and refl and refl and refl and tt)
+ties-right : Each (Is tieDigit) ties
+ties-right = refl and refl and tt
 
-  accidental-found : Found (Is accidentalDigit) k (lookup accidentals k)
-  accidental-found = found (Is accidentalDigit) accidentals k (refl and refl and refl and refl and refl and tt)
+letters-right : Each (Is letterDigit) letters
+letters-right = refl and refl and refl and refl and refl and refl and refl and tt
+
+accidentals-right : Each (Is accidentalDigit) accidentals
+accidentals-right = refl and refl and refl and refl and refl and tt
 
 tone-found : (k : ℕ) → k < 0x1000 → Found (Is toneDigits) k (toneAt k)
 tone-found k low =
-    let letter = k / 0x100 in
-    let accidental = k / 0x10 % 0x10 in
     cases (eqb k 0) (λ e. rw e (sym (eqb-true k 0 e)))
     (λ e. rw e
-    (after-found (Is letterDigit) (Is toneDigits) letter k (lookup letters letter) _ (letter-found letter)
-    (λ l el. after-found (Is accidentalDigit) (Is toneDigits) accidental k (lookup accidentals accidental) _ (accidental-found accidental)
+    (after-entry (Is letterDigit) (Is toneDigits) letters (k / 0x100) k _ letters-right
+    (λ l el. after-entry (Is accidentalDigit) (Is toneDigits) accidentals (k / 0x10 % 0x10) k _ accidentals-right
     (λ a ea. omega arith))))
 
 -- a number by its digits
@@ -93,14 +89,10 @@ digits n =
 
 note-right : (n : ℕ) → n / 0x10000000 ≡ 1 → Right n (noteAt n)
 note-right n one =
-    let duration = n / 0x100000 % 0x100 in
-    let shape = n / 0x10000 % 0x10 in
-    let tie = n / 0x1000 % 0x10 in
-    let tone = n % 0x1000 in
-    after-found (Is durationDigits) (Is codeOf) duration n (lookup durations duration) _ (duration-found duration)
-    (λ d ed. after-found (Is shapeDigit) (Is codeOf) shape n (lookup shapes shape) _ (shape-found shape)
-    (λ s es. after-found (Is tieDigit) (Is codeOf) tie n (lookup ties tie) _ (tie-found tie)
-    (λ t et. after-found (Is toneDigits) (Is codeOf) tone n (toneAt tone) _ (tone-found tone (omega arith))
+    after-entry (Is durationDigits) (Is codeOf) durations (n / 0x100000 % 0x100) n _ durations-right
+    (λ d ed. after-entry (Is shapeDigit) (Is codeOf) shapes (n / 0x10000 % 0x10) n _ shapes-right
+    (λ s es. after-entry (Is tieDigit) (Is codeOf) ties (n / 0x1000 % 0x10) n _ ties-right
+    (λ t et. after-part (Is toneDigits) (Is codeOf) (toneAt (n % 0x1000)) (n % 0x1000) n _ (tone-found (n % 0x1000) (omega arith))
     (λ o eo. omega (arith, digits n)))))
 
 -- a command of a number and a value, with the digits of the sign between them
@@ -214,13 +206,13 @@ decodes n =
     cases (eqb (n / 0x10000000) 1) (λ e. rw e (note-right n (eqb-true (n / 0x10000000) 1 e)))
     (λ e. rw e
     (cases (eqb sign 0)
-    (λ p. rw p (command 0 plain Any (omega (arith, split, eqb-true sign 0 p)) tt (found (RightFor 0 Any) plain id plain-right)))
+    (λ p. rw p (command 0 plain Any (omega (arith, split, eqb-true sign 0 p)) tt plain-right))
     (λ p. rw p
     (cases (eqb sign 1)
     (λ m. rw m
     (cases (eqb v 0) (λ z. rw z (refl, refl))
     (λ z. rw z
-    (command 0x10000 negative NotZero (omega (arith, split, eqb-true sign 1 m)) (eqb-false v 0 z) (found (RightFor 0x10000 NotZero) negative id negative-right)))))
+    (command 0x10000 negative NotZero (omega (arith, split, eqb-true sign 1 m)) (eqb-false v 0 z) negative-right))))
     (λ m. rw m (refl, refl))))))
   where
     id : ℕ
@@ -236,7 +228,7 @@ decodes n =
     split = let above : n / 0x100000 ≡ n / 0x10000 / 0x10 = omega arith in omega arith
 
     command : (before : ℕ) (table : List (Entry (ℕ → Outcome Meaning))) (P : ℕ → Type 0) → id * 0x100000 + before + v ≡ n → P v
-        → Found (RightFor before P) id (lookup table id) → Right n (commandAt table id v)
-    command before table P e p h =
+        → Each (RightFor before P) table → Right n (commandAt table id v)
+    command before table P e p each =
         subst (λ (k : ℕ). Right k (commandAt table id v)) e
-        (after-found (RightFor before P) (Is codeOf) id (id * 0x100000 + before + v) (lookup table id) (λ m. m v) h (λ m right. right v p))
+        (after-entry (RightFor before P) (Is codeOf) table id (id * 0x100000 + before + v) (λ m. m v) each (λ m right. right v p))

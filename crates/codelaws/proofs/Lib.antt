@@ -1,3 +1,4 @@
+pub mod Facts
 pub mod Refused
 pub mod Decoding
 pub mod Sizes

@@ -20,6 +20,7 @@ use Rattle.command.specs.Others.{upTo127, pulse, single, joined, found, unassig
 use Rattle.command.specs.RowLaws.{Each, found-holds}
 use Rattle.pair.specs.Pairs.{meaningOf}
 use Rattle.codelaws.specs.Statements.{PairRefused}
+use Rattle.codelaws.proofs.Facts.{_and_}
 
 -- 28, place 0
 range : PairRefused outOfRange
@@ -77,13 +78,35 @@ rtp v = picked (leb (v / 8) 22 && leZ (negsuc 46) (rtpValue v) && leZ (rtpValue 
 -- row by row, in the tables' order
 singles : (a b : ℕ) → Each PairRefused single a b
 singles a b =
-    ((λ q. tt), ((λ q. tt), ((λ q. tt), ((λ q. tt), ((λ q. tt), ((λ q. tt), ((λ q. tt), ((λ q. sca (number (byte O I I O I I I O) a * 256 + b)), ((λ q. up-to-127 (number (byte O I I I O I I O) a * 256 + b) (M.Vdp (number (byte O I I I O I I O) a * 256 + b))), ((λ q. tt), ((λ q. tt), ((λ q. tps (number (byte I O I O O I I O) a * 256 + b)), ((λ q. tt), ((λ q. up-to-127 (number (byte I I O O O I I O) a * 256 + b) (M.Pvd (number (byte I I O O O I I O) a * 256 + b))), ((λ q. up-to-127 (number (byte I I O I O I I O) a * 256 + b) (M.Pvr (number (byte I I O I O I I O) a * 256 + b))), ((λ q. tt), ((λ q. tt), ((λ q. tt), ((λ q. rtp (number (byte O O I O I I I O) a * 256 + b)), ((λ q. tt), tt))))))))))))))))))))
+    (λ q. tt)
+    and (λ q. tt)
+    and (λ q. tt)
+    and (λ q. tt)
+    and (λ q. tt)
+    and (λ q. tt)
+    and (λ q. tt)
+    and (λ q. sca (number (byte O I I O I I I O) a * 256 + b))
+    and (λ q. up-to-127 (number (byte O I I I O I I O) a * 256 + b) (M.Vdp (number (byte O I I I O I I O) a * 256 + b)))
+    and (λ q. tt)
+    and (λ q. tt)
+    and (λ q. tps (number (byte I O I O O I I O) a * 256 + b))
+    and (λ q. tt)
+    and (λ q. up-to-127 (number (byte I I O O O I I O) a * 256 + b) (M.Pvd (number (byte I I O O O I I O) a * 256 + b)))
+    and (λ q. up-to-127 (number (byte I I O I O I I O) a * 256 + b) (M.Pvr (number (byte I I O I O I I O) a * 256 + b)))
+    and (λ q. tt)
+    and (λ q. tt)
+    and (λ q. tt)
+    and (λ q. rtp (number (byte O O I O I I I O) a * 256 + b))
+    and (λ q. tt)
+    and tt
 
 others : (a b : ℕ) → PairRefused (otherOutcome a b)
 others a b =
-    found-holds PairRefused pulse a b (found single a b (joinedOutcome a b)) ((λ q. tt), tt)
+    found-holds PairRefused pulse a b (found single a b (joinedOutcome a b)) ((λ q. tt) and tt)
     (found-holds PairRefused single a b (joinedOutcome a b) (singles a b)
-    (found-holds PairRefused joined a b unassigned ((λ q. tt), ((λ q. jif (number (byte n n I I I I I O) a * 256 + b)), ((λ q. tt), ((λ q. tt), ((λ q. tt), tt))))) (inl refl, refl)))
+    (found-holds PairRefused joined a b unassigned
+    ((λ q. tt) and (λ q. jif (number (byte n n I I I I I O) a * 256 + b)) and (λ q. tt) and (λ q. tt) and (λ q. tt) and tt)
+    (inl refl, refl)))
 
 pub pair-refused : (a b : ℕ) → PairRefused (meaningOf a b)
 pair-refused a b =

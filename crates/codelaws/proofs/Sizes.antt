@@ -10,7 +10,8 @@ use native.Mathlib.Omega.{arith}
 use lib.Dec.{eqb, leb, ltb}
 use lib.IntN.{ℤ, pos, negsuc}
 use borrow.Author.Tests.{leb-true, ltb-false, eqb-true}
-use Rattle.logic.specs.Truth.{both, neither}
+use Rattle.logic.specs.Cases.{cases}
+use Rattle.logic.specs.Truth.{both-right, neither-right}
 use Rattle.refusals.specs.Numbers.{Outcome}
 use Rattle.refusals.specs.Numbers.Outcome.{accepted}
 use Rattle.meaning.specs.declared.Note.{Note}
@@ -44,21 +45,16 @@ module _ (v : ℕ) {y : Bytes} where
   counted-small most base step e = leb-true v most (tested (leb v most) (pair 1 (base + step * v)) e)
 
   pub phrase-small : (low high : ℕ) → phrase v low high ≡ accepted y → v ≤ 23
-  phrase-small low high e = go (leb v 15) refl e
-    where
-      go : (t : Bool) → leb v 15 ≡ t → cond t (pair 1 (low + 16 * v)) (cond (leb 17 v && leb v 23) (pair 1 (high + 16 * (v - 16))) noBytes) ≡ accepted y → v ≤ 23
-      go true p q = omega (arith, leb-true v 15 p)
-      go false p q = leb-true v 23 (both (leb 17 v) (leb v 23) (tested (leb 17 v && leb v 23) (pair 1 (high + 16 * (v - 16))) q) .1)
+  phrase-small low high e =
+      cases (leb v 15) (λ p. omega (arith, leb-true v 15 p))
+      (λ p. let q = tested (leb 17 v && leb v 23) (pair 1 (high + 16 * (v - 16))) (rw p at e) in leb-true v 23 (both-right (leb 17 v) (leb v 23) q))
 
   pub destination-small : destination v ≡ accepted y → v ≤ 3
-  destination-small e = go (eqb v 0) refl (eqb v 1) refl (eqb v 2) refl e
-    where
-      go : (t : Bool) → eqb v 0 ≡ t → (u : Bool) → eqb v 1 ≡ u → (w : Bool) → eqb v 2 ≡ w
-          → cond t (pair 1 0x8F) (cond u (pair 1 0xAF) (cond w (pair 1 0xDF) (cond (eqb v 3) (pair 1 0xEF) noBytes))) ≡ accepted y → v ≤ 3
-      go true p u q w r s = omega (arith, eqb-true v 0 p)
-      go false p true q w r s = omega (arith, eqb-true v 1 q)
-      go false p false q true r s = omega (arith, eqb-true v 2 r)
-      go false p false q false r s = omega (arith, eqb-true v 3 (tested (eqb v 3) (pair 1 0xEF) s))
+  destination-small e =
+      cases (eqb v 0) (λ p. omega (arith, eqb-true v 0 p))
+      (λ p. cases (eqb v 1) (λ q. omega (arith, eqb-true v 1 q))
+      (λ q. cases (eqb v 2) (λ r. omega (arith, eqb-true v 2 r))
+      (λ r. omega (arith, eqb-true v 3 (tested (eqb v 3) (pair 1 0xEF) (rw (p, q, r) at e))))))
 
   pub alone-small : (first most : ℕ) → alone first v most ≡ accepted y → v ≤ most
   alone-small first most e = leb-true v most (tested (leb v most) (pair first v) e)
@@ -67,7 +63,7 @@ module _ (v : ℕ) {y : Bytes} where
   joined-small most base step e = leb-true v most (tested (leb v most) (pair (base + step * (v / 256)) (v % 256)) e)
 
   pub tempo-small : tempo v ≡ accepted y → v ≤ 256
-  tempo-small e = ltb-false 256 v (neither (eqb v 0) (ltb 256 v) (untested (eqb v 0 || ltb 256 v) (pair 0x06 (v % 256)) e) .1)
+  tempo-small e = ltb-false 256 v (neither-right (eqb v 0) (ltb 256 v) (untested (eqb v 0 || ltb 256 v) (pair 0x06 (v % 256)) e))
 
 abbrev pub Small : ℤ → Type 0
 Small (pos n) = n ≤ 65535
