@@ -18,9 +18,9 @@ use Rattle.meaning.specs.declared.Meaning.the-variants.{Vdp, Pvd, Pvr, Jif}
 use Rattle.logic.specs.Every.{every, every-at, same, same-equal}
 use Rattle.refusals.specs.Numbers.{Outcome}
 use Rattle.refusals.specs.Numbers.Outcome.{accepted}
-use Rattle.command.specs.Patterns.{Symbol, O, I, n, byte, fits, number}
-use Rattle.command.specs.Codes.{secondOutcome}
-use Rattle.command.specs.Signs.{outOfRange, scaOutcome, tpsOutcome, rtpOutcome, jifOutcome}
+use Rattle.commandtable.specs.Patterns.{Symbol, O, I, n, byte, fits, number}
+use Rattle.commandtable.specs.Codes.{secondOutcome}
+use Rattle.commandsigns.specs.Signs.{outOfRange, scaOutcome, tpsOutcome, rtpOutcome, jifOutcome}
 use Rattle.command.specs.Others.{pulse, single, joined, found, unassigned, upTo127, tempoOf, joinedOutcome, otherOutcome}
 use Rattle.command.specs.RowLaws.{picked, Each, found-holds}
 use Rattle.command.specs.Pair.{commandOutcome}

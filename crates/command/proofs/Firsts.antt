@@ -15,8 +15,8 @@ use Rattle.meaning.specs.declared.Meaning.the-variants.{Pw, Ms, Dtn, Por}
 use Rattle.logic.specs.Every.{every, every-at, all-left, all-right, same, same-equal}
 use Rattle.refusals.specs.Numbers.{Outcome}
 use Rattle.refusals.specs.Numbers.Outcome.{accepted}
-use Rattle.command.specs.Patterns.{Symbol, O, I, n, byte, fits, number}
-use Rattle.command.specs.Signs.{detuningOf, jifOutcome}
+use Rattle.commandtable.specs.Patterns.{Symbol, O, I, n, byte, fits, number}
+use Rattle.commandsigns.specs.Signs.{detuningOf, jifOutcome}
 use Rattle.command.specs.Others.{Row, pulse, single, found, unassigned, joinedOutcome}
 
 abbrev arithmetic : List Symbol → (ℕ → Bool) → (ℕ → ℕ) → ℕ → Bool

@@ -15,8 +15,8 @@ use Rattle.meaning.specs.declared.Meaning.{Meaning}
 use Rattle.meaning.specs.declared.Meaning.the-variants.{Pw, Tem, Utl, Pnt, Hed, Flg, Ps, Fs, Vdp, Vrt, Aut, Aux, Pvd, Pvr, Max, Utv, Fc, Hld, Ms, Dtn, Por}
 use Rattle.refusals.specs.Numbers.{Outcome, numberOf, unassignedPair}
 use Rattle.refusals.specs.Numbers.Outcome.{accepted, refused}
-use Rattle.command.specs.Patterns.{Symbol, O, I, n, byte, fits, number}
-use Rattle.command.specs.Signs.{outOfRange, signedByte, detuningOf, scaOutcome, tpsOutcome, rtpOutcome, jifOutcome}
+use Rattle.commandtable.specs.Patterns.{Symbol, O, I, n, byte, fits, number}
+use Rattle.commandsigns.specs.Signs.{outOfRange, signedByte, detuningOf, scaOutcome, tpsOutcome, rtpOutcome, jifOutcome}
 
 abbrev pub upTo127 : ℕ → Meaning → Outcome Meaning
 upTo127 v m = cond (leb v 127) (accepted m) outOfRange

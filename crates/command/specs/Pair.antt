@@ -5,7 +5,7 @@ use mathlib.Core.Bool.{cond}
 use lib.Dec.{eqb}
 use Rattle.meaning.specs.declared.Meaning.{Meaning}
 use Rattle.refusals.specs.Numbers.{Outcome}
-use Rattle.command.specs.Codes.{secondOutcome}
+use Rattle.commandtable.specs.Codes.{secondOutcome}
 use Rattle.command.specs.Others.{otherOutcome}
 
 abbrev pub commandOutcome : ℕ → ℕ → Outcome Meaning

@@ -8,7 +8,7 @@ use mathlib.Core.Bool.{Bool, true, false, cond}
 use mathlib.Core.List.{List, [], _∷_}
 use Rattle.meaning.specs.declared.Meaning.{Meaning}
 use Rattle.refusals.specs.Numbers.{Outcome}
-use Rattle.command.specs.Patterns.{fits, number}
+use Rattle.commandtable.specs.Patterns.{fits, number}
 use Rattle.command.specs.Others.{Row, found}
 
 module _ (P : Outcome Meaning → Type 0) where

@@ -1,20 +1,17 @@
-// A command's two bytes read, for crates of ours.
+// A command's two bytes read; internal.
 ghost use mathlib.Core.Path.{_≡_};
 ghost use Rattle.meaning.specs.Answers.{toldMeaning};
 ghost use Rattle.command.specs.Pair.{commandOutcome};
 use meaning::Reading;
 
-mod codes;
 mod others;
-mod seconds;
-mod signs;
 
 // internal: the command of a pair whose first byte's low bits are not 00, or 27 or 28.
 pub fn read_command(first: u8, second: u8) -> Reading
     ensures { λ r. ⌜ toldMeaning r ≡ commandOutcome first second ⌝ }
 {
     if first == 1 {
-        codes::read_second(second)
+        commandtable::read_second(second)
     } else {
         others::read_other(first, second)
     }

@@ -2,7 +2,6 @@
 ghost use mathlib.Core.Path.{_≡_};
 ghost use Rattle.meaning.specs.Answers.{toldMeaning};
 ghost use Rattle.command.specs.Others.{upTo127, tempoOf, otherOutcome, joinedOutcome};
-use crate::signs;
 use meaning::Meaning;
 use meaning::Reading;
 use refusals::Refusal;
@@ -34,10 +33,13 @@ fn read_joined(first: u8, second: u8) -> Reading
         return Reading::Means(Meaning::Ms(high / 64 * 256 + n));
     }
     if first % 64 == 0x3E {
-        return signs::read_jif(high / 64 * 256 + n);
+        return commandsigns::read_jif(high / 64 * 256 + n);
     }
     if first % 16 == 0xA {
-        return Reading::Means(Meaning::Dtn(signs::detuning(high / 32 * 256 + n, high / 16 % 2)));
+        return Reading::Means(Meaning::Dtn(commandsigns::detuning(
+            high / 32 * 256 + n,
+            high / 16 % 2,
+        )));
     }
     if first % 4 == 3 {
         return Reading::Means(Meaning::Por(high / 4 * 256 + n));
@@ -58,20 +60,20 @@ pub fn read_other(first: u8, second: u8) -> Reading
         0x26 => Reading::Means(Meaning::Pnt(n)),
         0x36 => Reading::Means(Meaning::Hed(n)),
         0x46 => Reading::Means(Meaning::Flg(n)),
-        0x56 => Reading::Means(Meaning::Ps(signs::signed_byte(n))),
-        0x66 => Reading::Means(Meaning::Fs(signs::signed_byte(n))),
-        0x6E => signs::read_sca(second),
+        0x56 => Reading::Means(Meaning::Ps(commandsigns::signed_byte(n))),
+        0x66 => Reading::Means(Meaning::Fs(commandsigns::signed_byte(n))),
+        0x6E => commandsigns::read_sca(second),
         0x76 => up_to_127(n, Meaning::Vdp(n)),
         0x86 => Reading::Means(Meaning::Vrt(n)),
-        0x96 => Reading::Means(Meaning::Aut(signs::signed_byte(n))),
-        0xA6 => signs::read_tps(second),
+        0x96 => Reading::Means(Meaning::Aut(commandsigns::signed_byte(n))),
+        0xA6 => commandsigns::read_tps(second),
         0xB6 => Reading::Means(Meaning::Aux(n)),
         0xC6 => up_to_127(n, Meaning::Pvd(n)),
         0xD6 => up_to_127(n, Meaning::Pvr(n)),
         0xE6 => Reading::Means(Meaning::Max(n)),
         0xF6 => Reading::Means(Meaning::Utv(n)),
         0x0E => Reading::Means(Meaning::Fc(n)),
-        0x2E => signs::read_rtp(second),
+        0x2E => commandsigns::read_rtp(second),
         0x4E => Reading::Means(Meaning::Hld(n)),
         _ => read_joined(first, second),
     }

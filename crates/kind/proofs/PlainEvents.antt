@@ -10,7 +10,7 @@ use borrow.Author.Tests.{eqb-true, ne-eqb, ltb-true, not-true}
 use Rattle.logic.specs.Truth.{both}
 use Rattle.logic.specs.LastArm.{Others, known}
 use Rattle.logic.specs.Every.{every-at, implied}
-use Rattle.command.specs.Codes.{secondOutcome}
+use Rattle.commandtable.specs.Codes.{secondOutcome}
 use Rattle.command.specs.Others.{otherOutcome}
 use Rattle.pair.specs.Pairs.{meaningOf}
 use Rattle.kind.specs.declared.Kind.the-variants.{Event}

@@ -15,8 +15,8 @@ use borrow.Author.Tests.{eqb-true, ne-eqb, not-true}
 use Rattle.logic.specs.Every.{every, every-at, true-of}
 use Rattle.meaning.specs.declared.Meaning.the-variants.{Dtn, Por}
 use Rattle.refusals.specs.Numbers.Outcome.{accepted}
-use Rattle.command.specs.Codes.{secondOutcome}
-use Rattle.command.specs.Signs.{detuningOf}
+use Rattle.commandtable.specs.Codes.{secondOutcome}
+use Rattle.commandsigns.specs.Signs.{detuningOf}
 use Rattle.command.specs.Others.{single, found, unassigned, joinedOutcome, otherOutcome}
 use Rattle.command.proofs.Firsts.{isOneOf, singles, pulse-as, single-missed, joined-as}
 use Rattle.kind.specs.declared.Kind.the-variants.{Event, Bad}

@@ -17,10 +17,10 @@ use Rattle.logic.specs.Every.{every-at, all-left, all-right, true-of}
 use Rattle.refusals.specs.Numbers.{Outcome}
 use Rattle.refusals.specs.Numbers.Outcome.{accepted}
 use Rattle.note.specs.Reading.{noteOf}
-use Rattle.command.specs.Patterns as Pattern
-use Rattle.command.specs.Patterns.{byte, number}
-use Rattle.command.specs.Codes.{secondOutcome}
-use Rattle.command.specs.Signs.{outOfRange, signedByte, scaOutcome, tpsValue, tpsOutcome, rtpValue, rtpOutcome, jifOutcome}
+use Rattle.commandtable.specs.Patterns as Pattern
+use Rattle.commandtable.specs.Patterns.{byte, number}
+use Rattle.commandtable.specs.Codes.{secondOutcome}
+use Rattle.commandsigns.specs.Signs.{outOfRange, signedByte, scaOutcome, tpsValue, tpsOutcome, rtpValue, rtpOutcome, jifOutcome}
 use Rattle.command.specs.Others.{pulse, single, joined, found, unassigned, upTo127, joinedOutcome, otherOutcome}
 use Rattle.command.specs.RowLaws.{picked, Each, found-holds}
 use Rattle.command.specs.Pair.{commandOutcome}

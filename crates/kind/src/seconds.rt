@@ -1,6 +1,6 @@
 // Pairs whose first byte is 01, by the low nibble of the second.
 ghost use mathlib.Core.Path.{_≡_};
-ghost use Rattle.command.specs.Codes.{secondOutcome};
+ghost use Rattle.commandtable.specs.Codes.{secondOutcome};
 ghost use Rattle.kind.specs.Kinds.{kindOf};
 ghost use Rattle.kind.specs.Bytes.{eventUnless, row3, rowB, rowF};
 use crate::Kind;

@@ -10,7 +10,7 @@ use lib.IntN.{ℤ, pos, negsuc}
 use borrow.Author.Tests.{eq-eqb, ne-eqb, lt-ltb, le-ltb, lt-leb, leb-true}
 use Rattle.refusals.specs.Numbers.Outcome.{accepted}
 use Rattle.meaning.specs.declared.Meaning.the-variants.{Pw, Ms, Jif, Dtn, Por}
-use Rattle.command.specs.Signs.{detuningOf, jifOutcome}
+use Rattle.commandsigns.specs.Signs.{detuningOf, jifOutcome}
 use Rattle.command.proofs.Firsts.{joined-as}
 use Rattle.spelling.specs.declared.signs.Slot.the-variants.{In, Out}
 use Rattle.spelling.specs.Counts.{pair, noBytes, joined}

@@ -20,7 +20,7 @@ use Rattle.logic.specs.Every.{every, every-at, all-left, all-right}
 use Rattle.note.specs.Reading.{noteOf}
 use Rattle.note.specs.Usual.{usualFirst, usualSecond}
 use Rattle.note.specs.Laws.{read-note-writes}
-use Rattle.command.specs.Signs.{detuningOf, jifOutcome}
+use Rattle.commandsigns.specs.Signs.{detuningOf, jifOutcome}
 use Rattle.command.specs.Others.{joinedOutcome}
 use Rattle.command.proofs.Firsts.{isOneOf, singles, joined-as}
 use Rattle.spelling.specs.Counts.{joined}

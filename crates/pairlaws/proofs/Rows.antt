@@ -18,9 +18,9 @@ use Rattle.meaning.specs.Pitches.{inTables, halfStep}
 use Rattle.logic.specs.Every.{every-at, same, same-equal}
 use Rattle.note.specs.Reading.{toneOf}
 use Rattle.note.specs.Laws.{pitchByte, pitch-reads}
-use Rattle.command.specs.Patterns.{fits}
-use Rattle.command.specs.Codes as Codes
-use Rattle.command.specs.Codes.{rows, holds}
+use Rattle.commandtable.specs.Patterns.{fits}
+use Rattle.commandtable.specs.Codes as Codes
+use Rattle.commandtable.specs.Codes.{rows, holds}
 use Rattle.command.specs.Others.{Row, pulse, single, joined}
 use Rattle.command.proofs.Firsts.{isOneOf}
 

@@ -15,7 +15,7 @@ use Rattle.refusals.specs.Numbers.Outcome.{accepted}
 use Rattle.meaning.specs.declared.Meaning.{Meaning}
 use Rattle.meaning.specs.declared.Meaning.the-variants.{Sca, Tps, Rtp}
 use Rattle.logic.specs.Every.{every, every-at, true-of, all-left, all-right, sameℤ, sameℤ-equal}
-use Rattle.command.specs.Signs.{signedByte, tpsValue, rtpValue}
+use Rattle.commandsigns.specs.Signs.{signedByte, tpsValue, rtpValue}
 use Rattle.spelling.specs.Counts.{pair, noBytes}
 use Rattle.spelling.specs.Signs.{tps, rtp}
 use Rattle.pair.specs.Pairs.{meaningOf}

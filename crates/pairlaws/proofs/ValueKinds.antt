@@ -15,10 +15,10 @@ use Rattle.refusals.specs.Numbers.Outcome.{accepted}
 use Rattle.meaning.specs.declared.Meaning.{Meaning}
 use Rattle.meaning.specs.Answers.{Bytes}
 use Rattle.logic.specs.Every.{every, every-at, all-left, all-right}
-use Rattle.command.specs.Codes as Codes
-use Rattle.command.specs.Codes.{Command, coded}
-use Rattle.command.specs.Numbering.{numberOf, commandAt}
-use Rattle.command.proofs.Table.{command-back}
+use Rattle.commandtable.specs.Codes as Codes
+use Rattle.commandtable.specs.Codes.{Command, coded}
+use Rattle.commandtable.specs.Numbering.{numberOf, commandAt}
+use Rattle.commandtable.proofs.Table.{command-back}
 use Rattle.spelling.specs.declared.signs.Slot.the-variants.{In, Out}
 use Rattle.spelling.specs.Counts.{pair, noBytes, counted, phrase, alone, joined}
 use Rattle.spelling.specs.Signs.{ofSlot, signedByte}

@@ -20,7 +20,7 @@ use Rattle.note.specs.declared.Byte.the-variants.{Is, None}
 use Rattle.note.specs.Reading.{noteOf}
 use Rattle.note.specs.Writing.{lengthByte, tiedByte, toneByte, both, noteSpelling}
 use Rattle.note.specs.Laws.{written-note-reads}
-use Rattle.command.specs.Codes.{DCY, RUP, CAL, DEF, ATK, SUS, LFO, RDN, WAV, F-M, RLS, RES, VOL, SRC}
+use Rattle.commandtable.specs.Codes.{DCY, RUP, CAL, DEF, ATK, SUS, LFO, RDN, WAV, F-M, RLS, RES, VOL, SRC}
 use Rattle.command.specs.Others.{tempoOf}
 use Rattle.spelling.specs.Counts.{pair, noBytes, destination, tempo}
 use Rattle.pair.specs.Pairs.{spellingOf}

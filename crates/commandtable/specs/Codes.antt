@@ -1,0 +1,133 @@
+-- Source 004, 'COMMANDS WITH FIRST BYTE = HEX 01', row by row, with document 01's 'Unassigned: 53 6F 7F 83 8B 9F BF CF FF'.
+-- Command         the commands of the table in its order, and none
+-- Row             a row: the second byte's pattern, the command, and which numbers it may have and what is added to them
+-- counts, is, from9, upTo   kinds of rows: every number; a byte with one value; numbers from 1 with 16 added; numbers up to a greatest
+-- rows            the table
+-- holds           whether a byte fits a row, with a number that the row may have
+-- Coded, codedBy, coded   a second byte's command and value: those of the row that it fits
+-- bumpOf, meaningOf       what a command and its value mean
+-- secondOutcome   the meaning of 01 and a second byte, or 27
+use Prim.Native.Nat.{ℕ, _+_}
+use mathlib.Core.Bool.{Bool, _&&_, cond}
+use mathlib.Core.List.{List, [], _∷_}
+use lib.Dec.{eqb, leb}
+use Rattle.meaning.specs.declared.Bump.{Bump}
+use Rattle.meaning.specs.declared.Bump.the-variants.{Up, Down}
+use Rattle.meaning.specs.declared.Meaning.{Meaning}
+use Rattle.meaning.specs.declared.Meaning.the-variants.{Dcy, Rup, Cal, Bmp, Flt, Rng, Snc, Fx, Def, Atk, Sus, Lfo, Pv, Rdn, Wav, Fm, Rls, Res, ThreeOff, Vol, Tal, End, Hlt, Src, Dst}
+use Rattle.refusals.specs.Numbers.{Outcome, numberOf, unassignedPair}
+use Rattle.refusals.specs.Numbers.Outcome.{accepted, refused}
+use Rattle.commandtable.specs.Patterns.{Symbol, O, I, n, byte, fits, number}
+
+pub data Command : Type 0 where
+  DCY RUP CAL BMP FLT RNG SNC F-X DEF ATK SUS LFO P&V RDN WAV F-M RLS RES 3-0 VOL TAL END HLT SRC DST none : Command
+
+pub record Row : Type 0 where
+  pub pattern : List Symbol
+  pub command : Command
+  pub least : ℕ
+  pub most : ℕ
+  pub added : ℕ
+
+abbrev counts : List Symbol → Command → Row
+counts p c = record { pattern = p; command = c; least = 0; most = 31; added = 0 }
+
+abbrev is : List Symbol → Command → ℕ → Row
+is p c v = record { pattern = p; command = c; least = 0; most = 0; added = v }
+
+-- 'Bits 7654 contain a value, 9-F, which is 8 less than the true value'
+abbrev from9 : List Symbol → Command → Row
+from9 p c = record { pattern = p; command = c; least = 1; most = 7; added = 16 }
+
+abbrev upTo : ℕ → List Symbol → Command → Row
+upTo most p c = record { pattern = p; command = c; least = 0; most = most; added = 0 }
+
+abbrev pub rows : List Row
+rows =
+    counts (byte n n n n O O O O) DCY
+    ∷ counts (byte n n n n n O O I) RUP
+    ∷ counts (byte n n n n O O I O) CAL
+    ∷ is (byte O O O O O O I I) BMP 0
+    ∷ is (byte O O O I O O I I) FLT 0
+    ∷ is (byte O O I O O O I I) RNG 0
+    ∷ is (byte O O I I O O I I) SNC 0
+    ∷ is (byte O I O O O O I I) F-X 0
+    ∷ from9 (byte I n n n O O I I) DEF
+    ∷ counts (byte O n n n n I O O) ATK
+    ∷ counts (byte I n n n n I O O) SUS
+    ∷ is (byte O I I O O O I I) LFO 0
+    ∷ is (byte O I I I O O I I) P&V 0
+    ∷ counts (byte n n n n n I O I) RDN
+    ∷ counts (byte n n n n O I I O) DEF
+    ∷ counts (byte n n n O O I I I) WAV
+    ∷ counts (byte n n n I O I I I) F-M
+    ∷ counts (byte n n n n I O O O) RLS
+    ∷ counts (byte n n n n I O I O) RES
+    ∷ is (byte O O O O I O I I) BMP 1
+    ∷ is (byte O O O I I O I I) FLT 1
+    ∷ is (byte O O I O I O I I) RNG 1
+    ∷ is (byte O O I I I O I I) SNC 1
+    ∷ is (byte O I O O I O I I) F-X 1
+    ∷ is (byte O I O I I O I I) 3-0 1
+    ∷ is (byte O I I O I O I I) LFO 1
+    ∷ is (byte O I I I I O I I) P&V 1
+    ∷ from9 (byte I n n n I O I I) CAL
+    ∷ counts (byte n n n n I I I O) VOL
+    ∷ is (byte O O O O I I I I) TAL 0
+    ∷ is (byte O O I O I I I I) END 0
+    ∷ is (byte O I O O I I I I) HLT 0
+    ∷ upTo 2 (byte O n n I I I I I) SRC
+    ∷ is (byte I O O O I I I I) DST 0
+    ∷ is (byte I O I O I I I I) DST 1
+    ∷ is (byte I I O I I I I I) DST 2
+    ∷ is (byte I I I O I I I I) DST 3
+    ∷ []
+
+pub record Coded : Type 0 where
+  pub command : Command
+  pub value : ℕ
+
+abbrev pub holds : Row → ℕ → Bool
+holds r b = fits (r .pattern) b && leb (r .least) (number (r .pattern) b) && leb (number (r .pattern) b) (r .most)
+
+abbrev pub codedBy : List Row → ℕ → Coded
+codedBy [] b = record { command = none; value = 0 }
+codedBy (r ∷ rs) b =
+    cond (holds r b) (record { command = r .command; value = r .added + number (r .pattern) b }) (codedBy rs b)
+
+abbrev pub coded : ℕ → Coded
+coded b = codedBy rows b
+
+abbrev pub bumpOf : ℕ → Bump
+bumpOf v = cond (eqb v 0) Up Down
+
+abbrev pub meaningOf : Command → ℕ → Outcome Meaning
+meaningOf DCY v = accepted (Dcy v)
+meaningOf RUP v = accepted (Rup v)
+meaningOf CAL v = accepted (Cal v)
+meaningOf BMP v = accepted (Bmp (bumpOf v))
+meaningOf FLT v = accepted (Flt (eqb v 1))
+meaningOf RNG v = accepted (Rng (eqb v 1))
+meaningOf SNC v = accepted (Snc (eqb v 1))
+meaningOf F-X v = accepted (Fx (eqb v 1))
+meaningOf DEF v = accepted (Def v)
+meaningOf ATK v = accepted (Atk v)
+meaningOf SUS v = accepted (Sus v)
+meaningOf LFO v = accepted (Lfo v)
+meaningOf P&V v = accepted (Pv (eqb v 1))
+meaningOf RDN v = accepted (Rdn v)
+meaningOf WAV v = accepted (Wav v)
+meaningOf F-M v = accepted (Fm v)
+meaningOf RLS v = accepted (Rls v)
+meaningOf RES v = accepted (Res v)
+meaningOf 3-0 v = accepted (ThreeOff (eqb v 1))
+meaningOf VOL v = accepted (Vol v)
+meaningOf TAL v = accepted Tal
+meaningOf END v = accepted End
+meaningOf HLT v = accepted Hlt
+meaningOf SRC v = accepted (Src v)
+meaningOf DST v = accepted (Dst v)
+meaningOf none v = refused (numberOf unassignedPair) 0
+
+abbrev pub secondOutcome : ℕ → Outcome Meaning
+secondOutcome b = meaningOf (coded b .command) (coded b .value)
