@@ -14,7 +14,7 @@ use Rattle.meaning.specs.Answers.{Bytes}
 use Rattle.pair.specs.Pairs.{meaningOf, spellingOf}
 use Rattle.pairlaws.specs.Statements.{ReadsBack}
 use Rattle.pairlaws.proofs.Written.{reads-back}
-use Rattle.pairlaws.specs.Usual.{usual}
+use Rattle.pair.specs.Usual.{usual}
 use Rattle.pairlaws.proofs.Laws.{read-written}
 use Rattle.codes.specs.Coding.{codeOf}
 use Rattle.decoding.specs.Decoding.{decoded}

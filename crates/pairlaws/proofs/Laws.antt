@@ -13,7 +13,7 @@ use Rattle.meaning.specs.declared.Meaning.{Meaning}
 use Rattle.meaning.specs.Answers.{Bytes}
 use Rattle.spelling.specs.Counts.{pair, noBytes}
 use Rattle.pair.specs.Pairs.{spellingOf}
-use Rattle.pairlaws.specs.Usual.{usual}
+use Rattle.pair.specs.Usual.{usual}
 use Rattle.pairlaws.specs.Statements.{Good, ReadsBack, WrittenAs}
 use Rattle.pairlaws.proofs.Written.{reads-back}
 use Rattle.pairlaws.proofs.Read.{written-as}

@@ -25,7 +25,7 @@ use Rattle.command.specs.Others.{joinedOutcome}
 use Rattle.command.proofs.Firsts.{isOneOf, singles, joined-as}
 use Rattle.spelling.specs.Counts.{joined}
 use Rattle.pair.specs.Pairs.{meaningOf, spellingOf}
-use Rattle.pairlaws.specs.Usual.{usual}
+use Rattle.pair.specs.Usual.{usual}
 use Rattle.pairlaws.specs.Statements.{WrittenAs}
 use Rattle.pairlaws.proofs.FirstBytes.{other-meaning, pw-meaning}
 

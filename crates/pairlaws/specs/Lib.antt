@@ -1,2 +1,1 @@
-pub mod Usual
 pub mod Statements

@@ -9,7 +9,7 @@ use Rattle.meaning.specs.Answers.{Bytes}
 use Rattle.refusals.specs.Numbers.{Outcome, numberOf, noPair}
 use Rattle.refusals.specs.Numbers.Outcome.{accepted, refused}
 use Rattle.pair.specs.Pairs.{meaningOf, spellingOf}
-use Rattle.pairlaws.specs.Usual.{usual}
+use Rattle.pair.specs.Usual.{usual}
 
 abbrev pub Good : Meaning → ℕ → ℕ → Type 0
 Good m a b = (meaningOf a b ≡ accepted m) × (a < 256) × (b < 256)

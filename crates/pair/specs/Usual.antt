@@ -1,7 +1,7 @@
--- Document 01, 'A pair': 'Where several pairs mean one thing the writer uses: 64th with bit 5 set; utility voice with bit 7 clear;
--- rest 00; TPS zero 0E; RTP with octaves and remainder of one sign, zero 5B.'
+-- Document 01, 'A pair': 'Where several pairs mean one thing the writer uses: 64th with bit 5 set; utility voice
+-- with bit 7 clear; rest 00; TPS zero 0E; RTP with octaves and remainder of one sign, zero 5B.'
 -- usualTps   'TPS zero 0E', so not B1
--- usualRtp   'octaves and remainder of one sign': an octave goes from the one to the other where their signs differ
+-- usualRtp   'octaves and remainder of one sign': where their signs differ, an octave goes from one to the other
 -- usual      the pair that the writer uses for what a pair means
 use Prim.Native.Nat.{ℕ, _+_, _*_, _-_, _/_, _%_}
 use mathlib.Core.Bool.{_&&_, cond}
