@@ -4,7 +4,7 @@
 -- isSingle, single-missed     the rows of one byte each: which those are, and that no other fits
 use Prim.Native.Nat.{ℕ, _+_, _*_, _/_, _%_, _<_}
 use mathlib.Core.Path.{_≡_, refl, _∙_}
-use mathlib.Core.Bool.{Bool, true, false, _&&_, _||_, cond}
+use mathlib.Core.Bool.{Bool, false, _&&_, _||_, cond}
 use mathlib.Core.List.{List, [], _∷_}
 use native.Mathlib.Omega.{arith}
 use native.Mathlib.Decide.{ℕ-discrete}
@@ -12,6 +12,7 @@ use borrow.Author.Tests.{eq-eqb, ne-eqb}
 use lib.Dec.{T, eqb, eqb→eq}
 use Rattle.meaning.specs.declared.Meaning.{Meaning}
 use Rattle.meaning.specs.declared.Meaning.the-variants.{Pw, Ms, Dtn, Por}
+use Rattle.logic.specs.Truth.{neither}
 use Rattle.logic.specs.Every.{every, every-at, all-left, all-right, same, same-equal}
 use Rattle.refusals.specs.Numbers.{Outcome}
 use Rattle.refusals.specs.Numbers.Outcome.{accepted}
@@ -80,12 +81,9 @@ someFits (r ∷ rs) a = fits (r .pattern) a || someFits rs a
 
 none-found : (rs : List Row) (a b : ℕ) (x : Outcome Meaning) → someFits rs a ≡ false → found rs a b x ≡ x
 none-found [] a b x e = refl
-none-found (r ∷ rs) a b x e = go (fits (r .pattern) a) e (λ q. none-found rs a b x q)
-  where
-    go : (t : Bool) → t || someFits rs a ≡ false → (someFits rs a ≡ false → found rs a b x ≡ x)
-        → cond t (r .means (number (r .pattern) a * 256 + b)) (found rs a b x) ≡ x
-    go true q rest = absurd (let z : _≡_ {A = ℕ} 0 1 = cc in omega arith)
-    go false q rest = rest q
+none-found (r ∷ rs) a b x e =
+    let missed = neither (fits (r .pattern) a) (someFits rs a) e in
+    rw (missed .0) (none-found rs a b x (missed .1))
 
 pub single-missed : (a b : ℕ) (x : Outcome Meaning) → a < 256 → isOneOf singles a ≡ false → found single a b x ≡ x
 single-missed a b x h e =

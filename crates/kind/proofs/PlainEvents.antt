@@ -3,10 +3,11 @@
 -- plain-event         so for every two bytes
 use Prim.Native.Nat.{ℕ, _%_, _<_}
 use mathlib.Core.Path.{_≡_, refl, sym, _∙_}
-use mathlib.Core.Bool.{Bool, true, false, not, _&&_, _||_, cond}
+use mathlib.Core.Bool.{true, false, not, _&&_, _||_, cond}
 use mathlib.Core.List.{List, [], _∷_}
 use lib.Dec.{eqb, ltb}
 use borrow.Author.Tests.{eqb-true, ne-eqb, ltb-true, not-true}
+use Rattle.logic.specs.Cases.{cases}
 use Rattle.logic.specs.Truth.{both}
 use Rattle.logic.specs.LastArm.{Others, known}
 use Rattle.logic.specs.Every.{every-at, implied}
@@ -32,19 +33,14 @@ second-event b h e =
 
 module _ (a b : ℕ) (ha : a < 256) (hb : b < 256) where
   first-event : plainFirst a ≡ true → kindOf (otherOutcome a b) ≡ Event
-  first-event e = go (eqb (a % 4) 2) refl e
-    where
-      go : (t : Bool) → eqb (a % 4) 2 ≡ t → cond t (not (among apart a)) (eqb (a % 4) 3) ≡ true → kindOf (otherOutcome a b) ≡ Event
-      go true p q = rest-event a b ha hb (eqb-true (a % 4) 2 p) (not-true (among apart a) q)
-      go false p q = por-event a b ha (eqb-true (a % 4) 3 q)
+  first-event e =
+      cases (eqb (a % 4) 2) (λ p. rest-event a b ha hb (eqb-true (a % 4) 2 p) (not-true (among apart a) (rw p at e)))
+      (λ p. por-event a b ha (eqb-true (a % 4) 3 (rw p at e)))
 
   bytes-event : cond (eqb (a % 4) 0) true (cond (eqb a 1) (plainSecond (b % 16)) (plainFirst a)) ≡ true → kindOf (meaningOf a b) ≡ Event
-  bytes-event e = go (eqb (a % 4) 0) refl (eqb a 1) refl e
-    where
-      go : (n : Bool) → eqb (a % 4) 0 ≡ n → (o : Bool) → eqb a 1 ≡ o → cond n true (cond o (plainSecond (b % 16)) (plainFirst a)) ≡ true → kindOf (meaningOf a b) ≡ Event
-      go true p o q r = rw p
-      go false p true q r = rw (p, q) (second-event b hb r)
-      go false p false q r = rw (p, q) (first-event r)
+  bytes-event e =
+      cases (eqb (a % 4) 0) (λ p. rw p)
+      (λ p. cases (eqb a 1) (λ q. rw (p, q) (second-event b hb (rw (p, q) at e))) (λ q. rw (p, q) (first-event (rw (p, q) at e))))
 
 pub plain-event : (a b : ℕ) → isPlain a b ≡ true → kindOf (meaningOf a b) ≡ Event
 plain-event a b e =

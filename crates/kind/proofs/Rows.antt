@@ -12,6 +12,7 @@ use native.Mathlib.Decide.{ℕ-discrete}
 use lib.Dec.{T, eqb}
 use lib.IntN.{ℤ}
 use borrow.Author.Tests.{eqb-true, ne-eqb, not-true}
+use Rattle.logic.specs.Cases.{cases}
 use Rattle.logic.specs.Every.{every, every-at, true-of}
 use Rattle.meaning.specs.declared.Meaning.the-variants.{Dtn, Por}
 use Rattle.refusals.specs.Numbers.Outcome.{accepted}
@@ -68,11 +69,8 @@ Events (k ∷ ks) b = (kindOf (otherOutcome k b) ≡ Event) × Events ks b
 
 events-at : (ks : List ℕ) (a b : ℕ) → Events ks b → T (isOneOf ks a) → kindOf (otherOutcome a b) ≡ Event
 events-at [] a b es t = absurd t
-events-at (k ∷ ks) a b es t = go (eqb a k) refl t (λ u. events-at ks a b (es .1) u)
-  where
-    go : (s : Bool) → eqb a k ≡ s → T (s || isOneOf ks a) → (T (isOneOf ks a) → kindOf (otherOutcome a b) ≡ Event) → kindOf (otherOutcome a b) ≡ Event
-    go true e u later = rw (eqb-true a k e) (es .0)
-    go false e u later = later u
+events-at (k ∷ ks) a b es t =
+    cases (eqb a k) (λ e. rw (eqb-true a k e) (es .0)) (λ e. events-at ks a b (es .1) (rw e at t))
 
 plain-events : (b : ℕ) → b < 256 → Events plain b
 plain-events b h =

@@ -3,18 +3,16 @@
 -- jif-back, dtn-back                    JIF and DTN, of either sign
 use Prim.Native.Nat.{ℕ, _+_, _*_, _-_, _/_, _%_, _≤_}
 use mathlib.Core.Path.{_≡_, refl, _∙_, ap}
-use mathlib.Core.Bool.{Bool, true, false, cond}
 use native.Mathlib.Omega.{arith}
 use lib.Dec.{leb}
 use lib.IntN.{ℤ, pos, negsuc}
 use borrow.Author.Tests.{eq-eqb, ne-eqb, lt-ltb, le-ltb, lt-leb, leb-true}
+use Rattle.logic.specs.Cases.{cases}
 use Rattle.refusals.specs.Numbers.Outcome.{accepted}
 use Rattle.meaning.specs.declared.Meaning.the-variants.{Pw, Ms, Jif, Dtn, Por}
 use Rattle.commandsigns.specs.Signs.{detuningOf, jifOutcome}
 use Rattle.command.proofs.Firsts.{joined-as}
-use Rattle.spelling.specs.declared.signs.Slot.the-variants.{In, Out}
-use Rattle.spelling.specs.Counts.{pair, noBytes, joined}
-use Rattle.spelling.specs.Signs.{ofSlot, jif, dtn}
+use Rattle.spelling.specs.Signs.{jif, dtn}
 use Rattle.pair.specs.Pairs.{meaningOf}
 use Rattle.pairlaws.specs.Statements.{ReadsBack}
 use Rattle.pairlaws.proofs.ValueKinds.{picked, joined-good}
@@ -52,25 +50,23 @@ jif-raw v h =
     joined-meaning a (v % 256) (omega arith) (rw (ms, is)) ∙ joined-as a (v % 256) (omega arith) ∙ rw (ms, is, value)
 
 pub jif-back : (z : ℤ) → ReadsBack (Jif z) (jif z)
-jif-back (pos n) = go (leb n 757) refl
-  where
-    go : (t : Bool) → leb n 757 ≡ t → ReadsBack (Jif (pos n)) (ofSlot (λ k. joined k 1023 0x3E 64) (cond t (In n) Out))
-    go true e =
-        let low = leb-true n 757 e in
-        picked (Jif (pos n)) (leb n 1023) (0x3E + 64 * (n / 256)) (n % 256)
-        (λ q. joined-good (Jif (pos n)) n 1023 0x3E 64 (omega arith) tt
-        (jif-raw n (omega arith) ∙ rw (e, le-ltb n 0 (omega arith)) (ap (λ (k : ℕ). accepted (Jif (pos k))) (omega arith))))
-    go false e = (refl, refl)
-jif-back (negsuc n) = go (leb (n + 1) 200) refl
-  where
-    go : (t : Bool) → leb (n + 1) 200 ≡ t → ReadsBack (Jif (negsuc n)) (ofSlot (λ k. joined k 1023 0x3E 64) (cond t (In (1024 - (n + 1))) Out))
-    go true e =
-        let low = leb-true (n + 1) 200 e in
-        let v = 1024 - (n + 1) in
-        picked (Jif (negsuc n)) (leb v 1023) (0x3E + 64 * (v / 256)) (v % 256)
-        (λ q. joined-good (Jif (negsuc n)) v 1023 0x3E 64 (omega arith) tt
-        (jif-raw v (omega arith) ∙ rw (lt-leb v 757 (omega arith), lt-leb v 823 (omega arith), lt-ltb v 1024 (omega arith)) (ap (λ (k : ℕ). accepted (Jif (negsuc k))) (omega arith))))
-    go false e = (refl, refl)
+jif-back (pos n) =
+    cases (leb n 757)
+    (λ e. let low = leb-true n 757 e in
+    rw e
+    (picked (Jif (pos n)) (leb n 1023) (0x3E + 64 * (n / 256)) (n % 256)
+    (λ q. joined-good (Jif (pos n)) n 1023 0x3E 64 (omega arith) tt
+    (jif-raw n (omega arith) ∙ rw (e, le-ltb n 0 (omega arith)) (ap (λ (k : ℕ). accepted (Jif (pos k))) (omega arith))))))
+    (λ e. rw e (refl, refl))
+jif-back (negsuc n) =
+    cases (leb (n + 1) 200)
+    (λ e. let low = leb-true (n + 1) 200 e in
+    let v = 1024 - (n + 1) in
+    rw e
+    (picked (Jif (negsuc n)) (leb v 1023) (0x3E + 64 * (v / 256)) (v % 256)
+    (λ q. joined-good (Jif (negsuc n)) v 1023 0x3E 64 (omega arith) tt
+    (jif-raw v (omega arith) ∙ rw (lt-leb v 757 (omega arith), lt-leb v 823 (omega arith), lt-ltb v 1024 (omega arith)) (ap (λ (k : ℕ). accepted (Jif (negsuc k))) (omega arith))))))
+    (λ e. rw e (refl, refl))
 
 -- DTN's eleven bits below the first byte's sign
 dtn-raw : (bit v : ℕ) → bit ≤ 1 → v ≤ 2047
@@ -86,21 +82,19 @@ dtn-raw bit v one h =
     ∙ rw (ms, jif, is, sign, value)
 
 pub dtn-back : (z : ℤ) → ReadsBack (Dtn z) (dtn z)
-dtn-back (pos n) = go (leb n 2047) refl
-  where
-    go : (t : Bool) → leb n 2047 ≡ t → ReadsBack (Dtn (pos n)) (cond t (cond t (pair (0x0A + 32 * (n / 256)) (n % 256)) noBytes) noBytes)
-    go true e =
-        let low = leb-true n 2047 e in
-        joined-good (Dtn (pos n)) n 2047 0x0A 32 low tt
-        (dtn-raw 0 n (omega arith) low ∙ rw (le-ltb n 0 (omega arith)) (ap (λ (k : ℕ). accepted (Dtn (pos k))) (omega arith)))
-    go false e = (refl, refl)
-dtn-back (negsuc n) = go (leb (n + 1) 2048) refl
-  where
-    go : (t : Bool) → leb (n + 1) 2048 ≡ t → ReadsBack (Dtn (negsuc n)) (cond t (joined (2048 - (n + 1)) 2047 0x1A 32) noBytes)
-    go true e =
-        let low = leb-true (n + 1) 2048 e in
-        let v = 2048 - (n + 1) in
-        picked (Dtn (negsuc n)) (leb v 2047) (0x1A + 32 * (v / 256)) (v % 256)
-        (λ q. joined-good (Dtn (negsuc n)) v 2047 0x1A 32 (omega arith) tt
-        (dtn-raw 1 v (omega arith) (omega arith) ∙ rw (lt-ltb v 2048 (omega arith)) (ap (λ (k : ℕ). accepted (Dtn (negsuc k))) (omega arith))))
-    go false e = (refl, refl)
+dtn-back (pos n) =
+    cases (leb n 2047)
+    (λ e. let low = leb-true n 2047 e in
+    rw e
+    (joined-good (Dtn (pos n)) n 2047 0x0A 32 low tt
+    (dtn-raw 0 n (omega arith) low ∙ rw (le-ltb n 0 (omega arith)) (ap (λ (k : ℕ). accepted (Dtn (pos k))) (omega arith)))))
+    (λ e. rw e (refl, refl))
+dtn-back (negsuc n) =
+    cases (leb (n + 1) 2048)
+    (λ e. let low = leb-true (n + 1) 2048 e in
+    let v = 2048 - (n + 1) in
+    rw e
+    (picked (Dtn (negsuc n)) (leb v 2047) (0x1A + 32 * (v / 256)) (v % 256)
+    (λ q. joined-good (Dtn (negsuc n)) v 2047 0x1A 32 (omega arith) tt
+    (dtn-raw 1 v (omega arith) (omega arith) ∙ rw (lt-ltb v 2048 (omega arith)) (ap (λ (k : ℕ). accepted (Dtn (negsuc k))) (omega arith))))))
+    (λ e. rw e (refl, refl))

@@ -1,15 +1,16 @@
 -- What a pair means is written, as document 01 says that the writer does: for all 65,536 pairs.
 -- written-as   for every pair of bytes
 use Prim.Native.Nat.{ℕ, _+_, _*_, _-_, _/_, _%_, _≤_, _<_}
-use mathlib.Core.Path.{_≡_, refl, sym, _∙_, ap, subst}
-use mathlib.Core.Bool.{Bool, true, false, _&&_, _||_}
+use mathlib.Core.Path.{_≡_, sym, _∙_, ap, subst}
+use mathlib.Core.Bool.{Bool, true, false, _&&_}
 use mathlib.Core.List.{List, [], _∷_}
 use native.Mathlib.Omega.{arith}
 use native.Mathlib.Decide.{ℕ-discrete, decLt}
 use lib.Dec.{T, eqb, eqb→eq}
 use lib.IntN.{pos, negsuc, subℕ}
 use borrow.Author.Tests.{eq-eqb, ne-eqb, eqb-true, eqb-false, lt-ltb, le-ltb, le-leb, lt-leb}
-use Rattle.logic.specs.Truth.{neither-left, neither-right}
+use Rattle.logic.specs.Cases.{cases}
+use Rattle.logic.specs.Truth.{neither}
 use Rattle.refusals.specs.Numbers.{Outcome}
 use Rattle.refusals.specs.Numbers.Outcome.{accepted, refused}
 use Rattle.meaning.specs.declared.Meaning.{Meaning}
@@ -55,11 +56,9 @@ everyOf (k ∷ ks) f = f k && everyOf ks f
 
 every-of : (ks : List ℕ) (f : ℕ → Bool) → T (everyOf ks f) → (a : ℕ) → isOneOf ks a ≡ true → T (f a)
 every-of [] f t a e = absurd (let z : _≡_ {A = ℕ} 0 1 = cc in omega arith)
-every-of (k ∷ ks) f t a e = go (eqb a k) refl e (λ q. every-of ks f (all-right (f k) (everyOf ks f) t) a q)
-  where
-    go : (u : Bool) → eqb a k ≡ u → u || isOneOf ks a ≡ true → (isOneOf ks a ≡ true → T (f a)) → T (f a)
-    go true q r rest = subst (λ (j : ℕ). T (f j)) (sym (eqb-true a k q)) (all-left (f k) (everyOf ks f) t)
-    go false q r rest = rest r
+every-of (k ∷ ks) f t a e =
+    cases (eqb a k) (λ q. rw (eqb-true a k q) (all-left (f k) (everyOf ks f) t))
+    (λ q. every-of ks f (all-right (f k) (everyOf ks f) t) a (rw q at e))
 
 abbrev row : ℕ → Bool
 row a = every (λ b. writtenAs a b (meaningOf a b)) 256
@@ -160,16 +159,19 @@ module _ (a b : ℕ) (ha : a < 256) (hb : b < 256) where
       let used : usual a b ≡ record { first = usualFirst a; second = usualSecond b } = rw (is) in
       with-meaning a b (accepted (M.Note (noteOf a b))) means (read-note-writes a b ha hb e ∙ ap accepted (sym used))
 
-  rest-written : (a % 4 ≡ 0 → ⊥) → (t : Bool) → isOneOf (1 ∷ singles) a ≡ t → WrittenAs a b (meaningOf a b)
-  rest-written note true e = in-row a b hb (every-of (1 ∷ singles) row singles-written a e)
-  rest-written note false e =
+  rest-written : (a % 4 ≡ 0 → ⊥) → isOneOf (1 ∷ singles) a ≡ false → WrittenAs a b (meaningOf a b)
+  rest-written note e =
+      let none = neither (eqb a 1) (isOneOf singles a) e in
       elim (ℕ-discrete (a % 16) 2) [
         | yes pw ↦ with-meaning a b (accepted (Pw (a / 16 * 256 + b))) (pw-meaning a b ha pw) (pw-written-as pw)
         | no q ↦
-            with-meaning a b (joinedOutcome a b) (other-meaning a b ha note (eqb-false a 1 (neither-left (eqb a 1) (isOneOf singles a) e)) q (neither-right (eqb a 1) (isOneOf singles a) e))
-            (joined-written note (neither-right (eqb a 1) (isOneOf singles a) e))
+            with-meaning a b (joinedOutcome a b) (other-meaning a b ha note (eqb-false a 1 (none .0)) q (none .1)) (joined-written note (none .1))
       ]
 
   pub written-as : WrittenAs a b (meaningOf a b)
   written-as =
-      elim (ℕ-discrete (a % 4) 0) [ yes e ↦ note-written e | no note ↦ rest-written note (isOneOf (1 ∷ singles) a) refl ]
+      elim (ℕ-discrete (a % 4) 0) [
+        | yes e ↦ note-written e
+        | no note ↦
+            cases (isOneOf (1 ∷ singles) a) (λ e. in-row a b hb (every-of (1 ∷ singles) row singles-written a e)) (λ e. rest-written note e)
+      ]

@@ -4,13 +4,14 @@
 -- tps-back, rtp-back    TPS and RTP, by one test over the sizes of either sign
 use Prim.Native.Nat.{ℕ, _+_, _*_, _-_, _/_, _%_, _≤_}
 use mathlib.Core.Path.{_≡_, refl, _∙_, ap}
-use mathlib.Core.Bool.{Bool, true, false, not, _&&_, cond}
+use mathlib.Core.Bool.{Bool, true, not, _&&_, cond}
 use native.Mathlib.Omega.{arith}
 use native.Mathlib.Nat.{zero-add}
 use lib.Dec.{T, leb, ltb, ltb→lt}
 use lib.IntN.{ℤ, pos, negsuc}
 use lib.Signed.{leZ}
 use borrow.Author.Tests.{le-leb, ltb-false, not-true}
+use Rattle.logic.specs.Cases.{cases}
 use Rattle.refusals.specs.Numbers.Outcome.{accepted}
 use Rattle.meaning.specs.declared.Meaning.{Meaning}
 use Rattle.meaning.specs.declared.Meaning.the-variants.{Sca, Tps, Rtp}
@@ -54,13 +55,10 @@ module _ (M : ℤ → Meaning) (first : ℕ) (inside : ℕ → Bool) (value : �
   -- the byte that is written for each number, whose size is that much more, up to a greatest
   sized-back : (z : ℕ → ℤ) (byte : ℕ → ℕ) (greatest more : ℕ) → T (every (λ k. right (byte k) (z k)) (greatest + 1 - more)) → (n size : ℕ) → size ≡ n + more
       → ReadsBack (M (z n)) (cond (ltb greatest size) noBytes (pair first (byte n)))
-  sized-back z byte greatest more t n size e = go (ltb greatest size) refl
-    where
-      go : (u : Bool) → ltb greatest size ≡ u → ReadsBack (M (z n)) (cond u noBytes (pair first (byte n)))
-      go true q = (refl, refl)
-      go false q =
-          let h = ltb-false greatest size q in
-          byte-good (byte n) (z n) (every-at (λ k. right (byte k) (z k)) (greatest + 1 - more) t n (omega arith))
+  sized-back z byte greatest more t n size e =
+      cases (ltb greatest size) (λ q. rw q (refl, refl))
+      (λ q. let h = ltb-false greatest size q in
+      rw q (byte-good (byte n) (z n) (every-at (λ k. right (byte k) (z k)) (greatest + 1 - more) t n (omega arith))))
 
 abbrev tpsIn : ℕ → Bool
 tpsIn b = not (ltb 11 (b / 16))

@@ -9,6 +9,7 @@ use native.Mathlib.Omega.{arith}
 use lib.Dec.{T, eqb, leb, ltb, eqb→eq, ltb→lt, lit<}
 use borrow.Author.Tests.{leb-true, eqb-true}
 use lib.IntN.{ℤ, pos, negsuc}
+use Rattle.logic.specs.Cases.{cases}
 use Rattle.logic.specs.Truth.{both-left, both-right}
 use Rattle.refusals.specs.Numbers.{Outcome}
 use Rattle.refusals.specs.Numbers.Outcome.{accepted}
@@ -19,9 +20,8 @@ use Rattle.commandtable.specs.Codes as Codes
 use Rattle.commandtable.specs.Codes.{Command, coded}
 use Rattle.commandtable.specs.Numbering.{numberOf, commandAt}
 use Rattle.commandtable.proofs.Table.{command-back}
-use Rattle.spelling.specs.declared.signs.Slot.the-variants.{In, Out}
 use Rattle.spelling.specs.Counts.{pair, noBytes, counted, phrase, alone, joined}
-use Rattle.spelling.specs.Signs.{ofSlot, signedByte}
+use Rattle.spelling.specs.Signs.{signedByte}
 use Rattle.spelling.proofs.Steps.{stepped}
 use Rattle.pair.specs.Pairs.{meaningOf}
 use Rattle.pairlaws.specs.Statements.{Good, ReadsBack}
@@ -35,11 +35,8 @@ picked-else m true a b x f g = f refl
 picked-else m false a b x f g = g
 
 pub at-value : (M : ℕ → Meaning) (v k : ℕ) (x y : Outcome Bytes) → ReadsBack (M k) x → ReadsBack (M v) y → ReadsBack (M v) (cond (eqb v k) x y)
-at-value M v k x y f g = go (eqb v k) refl
-  where
-    go : (t : Bool) → eqb v k ≡ t → ReadsBack (M v) (cond t x y)
-    go true e = subst (λ (j : ℕ). ReadsBack (M j) x) (sym (eqb-true v k e)) f
-    go false e = g
+at-value M v k x y f g =
+    cases (eqb v k) (λ e. rw e (subst (λ (j : ℕ). ReadsBack (M j) x) (sym (eqb-true v k e)) f)) (λ e. rw e g)
 
 -- the second byte's command and value, as a test
 abbrev pub codedIs : Command → ℕ → ℕ → Bool
@@ -103,18 +100,14 @@ pub signed-back : (M : ℤ → Meaning) (first below above : ℕ)
     → ((n : ℕ) → n ≤ above → meaningOf first n ≡ accepted (M (pos n)))
     → ((n : ℕ) → n + 1 ≤ below → meaningOf first (256 - (n + 1)) ≡ accepted (M (negsuc n)))
     → T (ltb first 256) → T (ltb above 256) → (z : ℤ) → ReadsBack (M z) (signedByte first z below above)
-signed-back M first below above up down f a (pos n) = go (leb n above) refl
-  where
-    go : (t : Bool) → leb n above ≡ t → ReadsBack (M (pos n)) (ofSlot (λ k. alone first k 255) (cond t (In n) Out))
-    go true e =
-        let low = leb-true n above e in
-        let top = ltb→lt above 256 a in
-        picked (M (pos n)) (leb n 255) first n (λ q. (up n low, ltb→lt first 256 f, omega arith))
-    go false e = (refl, refl)
-signed-back M first below above up down f a (negsuc n) = go (leb (n + 1) below) refl
-  where
-    go : (t : Bool) → leb (n + 1) below ≡ t → ReadsBack (M (negsuc n)) (ofSlot (λ k. alone first k 255) (cond t (In (256 - (n + 1))) Out))
-    go true e =
-        let low = leb-true (n + 1) below e in
-        picked (M (negsuc n)) (leb (256 - (n + 1)) 255) first (256 - (n + 1)) (λ q. (down n low, ltb→lt first 256 f, omega arith))
-    go false e = (refl, refl)
+signed-back M first below above up down f a (pos n) =
+    cases (leb n above)
+    (λ e. let low = leb-true n above e in
+    let top = ltb→lt above 256 a in
+    rw e (picked (M (pos n)) (leb n 255) first n (λ q. (up n low, ltb→lt first 256 f, omega arith))))
+    (λ e. rw e (refl, refl))
+signed-back M first below above up down f a (negsuc n) =
+    cases (leb (n + 1) below)
+    (λ e. let low = leb-true (n + 1) below e in
+    rw e (picked (M (negsuc n)) (leb (256 - (n + 1)) 255) first (256 - (n + 1)) (λ q. (down n low, ltb→lt first 256 f, omega arith))))
+    (λ e. rw e (refl, refl))

@@ -2,12 +2,13 @@
 -- reads-back   for every meaning
 use Prim.Native.Nat.{ℕ, _+_, _-_, _%_, _<_}
 use mathlib.Core.Path.{_≡_, refl, ap}
-use mathlib.Core.Bool.{Bool, true, false, _||_, cond}
+use mathlib.Core.Bool.{true, false, _||_}
 use native.Mathlib.Omega.{arith}
 use native.Mathlib.Nat.{zero-add}
 use lib.Dec.{T, eqb, ltb, eqb→eq, lit<}
 use borrow.Author.Tests.{eq-eqb, le-leb, ltb-false, eqb-false}
-use Rattle.logic.specs.Truth.{neither-left, neither-right}
+use Rattle.logic.specs.Cases.{cases}
+use Rattle.logic.specs.Truth.{neither}
 use Rattle.refusals.specs.Numbers.Outcome.{accepted}
 use Rattle.meaning.specs.declared.Bump.the-variants.{Up, Down}
 use Rattle.meaning.specs.declared.Note.{Note}
@@ -48,17 +49,14 @@ destination-back v =
 
 -- TEM's byte of a value, from 1 on
 tempo-back : (v : ℕ) → ReadsBack (Tem v) (tempo v)
-tempo-back v = go (eqb v 0 || ltb 256 v) refl
-  where
-    go : (t : Bool) → eqb v 0 || ltb 256 v ≡ t → ReadsBack (Tem v) (cond t noBytes (pair 0x06 (v % 256)))
-    go true e = (refl, refl)
-    go false e =
-        let none = neither-left (eqb v 0) (ltb 256 v) e in
-        let top = ltb-false 256 v (neither-right (eqb v 0) (ltb 256 v) e) in
-        let some : v ≡ 0 → ⊥ = eqb-false v 0 none in
-        let s : v - 1 + 1 ≡ v = omega (arith, some) in
-        let r : T (eqb (tempoOf (v % 256)) v) = rw (s) at (every-at (λ k. eqb (tempoOf ((k + 1) % 256)) (k + 1)) 256 tt (v - 1) (omega arith)) in
-        (rw (zero-add (v % 256)) (ap (λ k. accepted (Tem k)) (eqb→eq (tempoOf (v % 256)) v r)), lit< tt, omega arith)
+tempo-back v =
+    cases (eqb v 0 || ltb 256 v) (λ e. rw e (refl, refl))
+    (λ e. let none = neither (eqb v 0) (ltb 256 v) e in
+    let top = ltb-false 256 v (none .1) in
+    let some : v ≡ 0 → ⊥ = eqb-false v 0 (none .0) in
+    let s : v - 1 + 1 ≡ v = omega (arith, some) in
+    let r : T (eqb (tempoOf (v % 256)) v) = rw (s) at (every-at (λ k. eqb (tempoOf ((k + 1) % 256)) (k + 1)) 256 tt (v - 1) (omega arith)) in
+    rw e (rw (zero-add (v % 256)) (ap (λ k. accepted (Tem k)) (eqb→eq (tempoOf (v % 256)) v r)), lit< tt, omega arith))
 
 pub reads-back : (m : Meaning) → ReadsBack m (spellingOf m)
 reads-back (M.Note n) = note-back n
