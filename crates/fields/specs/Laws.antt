@@ -6,32 +6,24 @@
 -- put-above, put-below   every other cell is as it was
 use Prim.Native.Nat.{ℕ, _+_, _-_, _<_, _≤_}
 use mathlib.Core.Path.{_≡_, refl, ap, _∙_}
-use mathlib.Core.Bool.{Bool, true, false}
 use mathlib.Core.List.{List, [], _∷_, _++_, append-assoc}
 use native.Mathlib.Omega.{arith}
 use lib.ListN.{length, take, drop, getD, length-append, length-take, length-drop, List·getD-append}
 use lib.Seq.{length-take-le, getD-take, getD-drop, getD-append-add}
 use lib.Dec.{eqb}
-use Rattle.fields.specs.Parts.{before, unlessMark, put}
+use Rattle.logic.specs.Cases.{cases}
+use Rattle.fields.specs.Parts.{before, put}
 
 module _ (mark : ℕ) where
   pub take-before : (s : List ℕ) → take (length (before mark s)) s ≡ before mark s
   unfolding before
   take-before [] = refl
-  take-before (b ∷ bs) = go (eqb b mark) (take-before bs)
-    where
-      go : (z : Bool) → take (length (before mark bs)) bs ≡ before mark bs → take (length (unlessMark z b (before mark bs))) (b ∷ bs) ≡ unlessMark z b (before mark bs)
-      go true e = refl
-      go false e = ap (λ (l : List ℕ). b ∷ l) e
+  take-before (b ∷ bs) = cases (eqb b mark) (λ e. rw e) (λ e. rw e (ap (λ (l : List ℕ). b ∷ l) (take-before bs)))
 
   pub length-before : (s : List ℕ) → length (before mark s) ≤ length s
   unfolding before
   length-before [] = omega arith
-  length-before (b ∷ bs) = go (eqb b mark) (length-before bs)
-    where
-      go : (z : Bool) → length (before mark bs) ≤ length bs → length (unlessMark z b (before mark bs)) ≤ length (b ∷ bs)
-      go true e = omega arith
-      go false e = omega arith
+  length-before (b ∷ bs) = let rest = length-before bs in cases (eqb b mark) (λ e. rw e (omega arith)) (λ e. rw e (omega arith))
 
 module _ (m : List ℕ) (a : ℕ) (p : List ℕ) (fits : a + length p ≤ length m) where
   pub length-put : length (put m a p) ≡ length m

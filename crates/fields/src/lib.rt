@@ -1,5 +1,5 @@
-// Numbers, parts and texts in lent bytes, and the copy of bytes into memory, for crates of ours. A read past the end gives
-// 0, so that no reader needs to know a length first.
+// Numbers, parts and texts in lent bytes, and the copy of bytes into memory. A read past the end gives 0, so that no reader
+// needs to know a length first.
 ghost use mathlib.Core.Path.{_≡_};
 ghost use Prim.Native.Nat.{_+_, _*_, _≤_};
 ghost use lib.ListN.{length, getD, take, drop};
@@ -119,7 +119,7 @@ fn start_of(list: &[u8], mark: u8, number: usize) -> usize
     list.len()
 }
 
-// internal: an entry by its number, from 0 on, of a list with a mark behind each entry; nothing past the last.
+// internal: an entry by its number, from 0 on, of a list with a mark after each entry; nothing past the last.
 pub fn entry_at(list: &[u8], mark: u8, number: usize) -> &[u8]
     ensures { λ r. ⌜ now r ≡ entryAt (now (list .entry)) mark number ⌝ }
 {

@@ -4,20 +4,20 @@
 -- none-append                none of a list applies, so none of its second part
 -- later, first-append        a list in two parts: the second counts where the first passes
 -- testedAll, tested-first    tests made one by one come to what the list comes to
--- number-above, first-above  a refusal's number is above 0, of each reason and of tests made in order
+-- first-above                the number with which tests refuse is above 0
 -- refused-once               a refusal is known by its number and place
 -- two-ways                   nothing is both accepted and refused
 -- guarded-passed, guarded-accepted   what comes after tests is accepted only where they pass
 use Prim.Native.Nat.{ℕ, _<_}
 use mathlib.Core.Path.{_≡_, refl, subst}
 use native.Mathlib.Omega.{arith}
-use lib.Dec.{lit<}
 use mathlib.Core.Bool.{Bool, true, false, cond}
 use mathlib.Core.List.{List, [], _∷_, _++_}
+use Rattle.logic.specs.Cases.{cases}
 use Rattle.refusals.specs.declared.Refusal.{Refusal}
 use Rattle.refusals.specs.declared.Verdict.{Verdict}
 use Rattle.refusals.specs.declared.Verdict.the-variants.{Passed, Failed}
-use Rattle.refusals.specs.Numbers.{Reason, Outcome, numberOf, tooShort, magic, version, dataOffset, rsidReserved, songs, reservedBits, musPayload, noPayload, pastMemory, rsidLoad, rsidInit, freePages, musShort, musPastMemory, voiceLength, voicesPastFile, textLines, bytesAfterText, unassignedPair, valueRange, hltMisplaced, structure, hedZero, tooDeep, tooLong, memorySize, voiceNumber, listLengths, noPair, noSuchSong}
+use Rattle.refusals.specs.Numbers.{Reason, Outcome, numberOf, number-above}
 use Rattle.refusals.specs.Numbers.Outcome.{accepted, refused}
 use Rattle.refusals.specs.Tests.{Test, test, firstOf, None, guarded, tested}
 
@@ -48,11 +48,7 @@ later (Failed n) v = Failed n
 
 pub first-append : (ts us : List Test) → firstOf (ts ++ us) ≡ later (firstOf ts) (firstOf us)
 first-append [] us = refl
-first-append (t ∷ ts) us = go (t .applies) (firstOf us) (first-append ts us)
-  where
-    go : (b : Bool) {v : Verdict} (w : Verdict) → v ≡ later (firstOf ts) w → cond b (Failed (numberOf (t .reason))) v ≡ later (cond b (Failed (numberOf (t .reason))) (firstOf ts)) w
-    go true w e = refl
-    go false w e = e
+first-append (t ∷ ts) us = cases (t .applies) (λ e. rw e) (λ e. rw e (first-append ts us))
 
 -- the tests made one by one, from a verdict on
 abbrev pub testedAll : Verdict → List Test → Verdict
@@ -65,11 +61,7 @@ tested-failed n (t ∷ ts) = tested-failed n ts
 
 pub tested-first : (ts : List Test) → testedAll Passed ts ≡ firstOf ts
 tested-first [] = refl
-tested-first (t ∷ ts) = go (t .applies) (tested-first ts)
-  where
-    go : (b : Bool) {v : Verdict} → testedAll Passed ts ≡ v → testedAll (cond b (Failed (numberOf (t .reason))) Passed) ts ≡ cond b (Failed (numberOf (t .reason))) v
-    go true e = tested-failed (numberOf (t .reason)) ts
-    go false e = e
+tested-first (t ∷ ts) = cases (t .applies) (λ e. rw e (tested-failed (numberOf (t .reason)) ts)) (λ e. rw e (tested-first ts))
 
 pub two-ways : {A : Type 0} {a : A} {n p : ℕ} → refused n p ≡ accepted a → ⊥
 two-ways e = let z : _≡_ {A = ℕ} 0 1 = cc in omega arith
@@ -90,43 +82,9 @@ refused-once x y e =
     let place : x .place ≡ y .place = cc in
     λ i. record { number = number i; place = place i }
 
-pub number-above : (r : Reason) → 0 < numberOf r
-number-above tooShort = lit< tt
-number-above magic = lit< tt
-number-above version = lit< tt
-number-above dataOffset = lit< tt
-number-above rsidReserved = lit< tt
-number-above songs = lit< tt
-number-above reservedBits = lit< tt
-number-above musPayload = lit< tt
-number-above noPayload = lit< tt
-number-above pastMemory = lit< tt
-number-above rsidLoad = lit< tt
-number-above rsidInit = lit< tt
-number-above freePages = lit< tt
-number-above musShort = lit< tt
-number-above musPastMemory = lit< tt
-number-above voiceLength = lit< tt
-number-above voicesPastFile = lit< tt
-number-above textLines = lit< tt
-number-above bytesAfterText = lit< tt
-number-above unassignedPair = lit< tt
-number-above valueRange = lit< tt
-number-above hltMisplaced = lit< tt
-number-above structure = lit< tt
-number-above hedZero = lit< tt
-number-above tooDeep = lit< tt
-number-above tooLong = lit< tt
-number-above memorySize = lit< tt
-number-above voiceNumber = lit< tt
-number-above listLengths = lit< tt
-number-above noPair = lit< tt
-number-above noSuchSong = lit< tt
-
 pub first-above : (ts : List Test) (n : ℕ) → firstOf ts ≡ Failed n → 0 < n
 first-above [] n e = absurd (let z : _≡_ {A = ℕ} 0 1 = cc in omega arith)
-first-above (t ∷ ts) n e = go (t .applies) (λ q. first-above ts n q) e
-  where
-    go : (b : Bool) → (firstOf ts ≡ Failed n → 0 < n) → cond b (Failed (numberOf (t .reason))) (firstOf ts) ≡ Failed n → 0 < n
-    go true rest q = let is : numberOf (t .reason) ≡ n = cc in subst (λ (k : ℕ). 0 < k) is (number-above (t .reason))
-    go false rest q = rest q
+first-above (t ∷ ts) n e =
+    cases (t .applies)
+    (λ a. let q = rw a at e in let is : numberOf (t .reason) ≡ n = cc in subst (λ (k : ℕ). 0 < k) is (number-above (t .reason)))
+    (λ a. first-above ts n (rw a at e))

@@ -1,8 +1,10 @@
 -- Document 01, 'What comes back': the number of each refusal by name, and what a call comes back with.
 -- Reason, numberOf   the table: why a call refuses, and its number
+-- number-above       every number of the table is above 0
 -- unplaced           a refusal with no place of its own: 'The place is 0 except for 27 to 33 in a file'
 -- Outcome            a call's result as the paper has it: a value, or a refusal's number and place
-use Prim.Native.Nat.{ℕ}
+use Prim.Native.Nat.{ℕ, _<_}
+use lib.Dec.{lit<}
 use Rattle.refusals.specs.declared.Refusal.{Refusal}
 
 pub data Reason : Type 0 where
@@ -43,6 +45,39 @@ numberOf voiceNumber = 41
 numberOf listLengths = 42
 numberOf noPair = 43
 numberOf noSuchSong = 44
+
+pub number-above : (r : Reason) → 0 < numberOf r
+number-above tooShort = lit< tt
+number-above magic = lit< tt
+number-above version = lit< tt
+number-above dataOffset = lit< tt
+number-above rsidReserved = lit< tt
+number-above songs = lit< tt
+number-above reservedBits = lit< tt
+number-above musPayload = lit< tt
+number-above noPayload = lit< tt
+number-above pastMemory = lit< tt
+number-above rsidLoad = lit< tt
+number-above rsidInit = lit< tt
+number-above freePages = lit< tt
+number-above musShort = lit< tt
+number-above musPastMemory = lit< tt
+number-above voiceLength = lit< tt
+number-above voicesPastFile = lit< tt
+number-above textLines = lit< tt
+number-above bytesAfterText = lit< tt
+number-above unassignedPair = lit< tt
+number-above valueRange = lit< tt
+number-above hltMisplaced = lit< tt
+number-above structure = lit< tt
+number-above hedZero = lit< tt
+number-above tooDeep = lit< tt
+number-above tooLong = lit< tt
+number-above memorySize = lit< tt
+number-above voiceNumber = lit< tt
+number-above listLengths = lit< tt
+number-above noPair = lit< tt
+number-above noSuchSong = lit< tt
 
 abbrev pub unplaced : ℕ → Refusal
 unplaced n = record { number = n; place = 0 }
