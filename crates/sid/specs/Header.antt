@@ -3,8 +3,8 @@
 -- startOf    'Start song 0 reads as 1'
 -- textAt     'A text is its first 31 bytes, cut before the first zero among them'
 -- spanAt     where the text at an offset lies
--- headerOf   the header; 'effective init' and load address, the flag bits taken apart as in 003
-use Prim.Native.Nat.{ℕ, _/_, _%_}
+-- headerOf   the header, with the effective init and load address
+use Prim.Native.Nat.{ℕ}
 use mathlib.Core.List.{List}
 use mathlib.Core.Bool.{cond}
 use lib.ListN.{length, take, drop}
@@ -12,8 +12,8 @@ use lib.Dec.{eqb}
 use Rattle.fields.specs.Parts.{beforeZero}
 use Rattle.sidheader.specs.declared.Fields.{Fields}
 use Rattle.sidheader.specs.declared.Payload.{Payload}
-use Rattle.sidheader.specs.Fields.{rsid}
-use Rattle.sidrefusals.specs.PayloadTests.{initOf, basic}
+use Rattle.sidheader.specs.Fields.{rsid, basic, clock, model}
+use Rattle.sidheader.specs.Payload.{initOf}
 use Rattle.sid.specs.declared.Kind.{Kind}
 use Rattle.sid.specs.declared.Kind.the-variants.{Psid, Rsid}
 use Rattle.fields.specs.declared.Span.{Span}
@@ -43,8 +43,8 @@ headerOf f x p =
       start = startOf (x .start);
       speed = x .speed;
       basic = basic x;
-      clock = x .flags / 4 % 4;
-      model = x .flags / 16 % 4;
+      clock = clock x;
+      model = model x;
       page = x .page;
       pages = x .pages;
       title = spanAt f 0x16;

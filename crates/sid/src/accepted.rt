@@ -39,7 +39,7 @@ pub fn header_of(file: &[u8], x: Fields, p: Payload) -> Header
 {
     let flags = x.flags;
     let kind = kind_of(x.magic);
-    let init = sidrefusals::init_of(x, p);
+    let init = sidheader::init_of(x, p);
     let start = start_of(x.start);
     let title = text_at(file, 0x16);
     let author = text_at(file, 0x36);

@@ -1,10 +1,11 @@
 -- Source 003, 'The SID file header v1' and 'v2', and document 01, 'PSID and RSID': the header's fields, big-endian, at their offsets.
--- psid, rsid the magic of each kind, 0x50534944 or 0x52534944
--- added      a field that version 2 adds: 'Version 1 takes flags, page bytes and that word as 0'
--- fieldsOf   the fields of a file
-use Prim.Native.Nat.{ℕ}
+-- psid, rsid            the magic of each kind, 0x50534944 or 0x52534944
+-- added                 a field that version 2 adds: 'Version 1 takes flags, page bytes and that word as 0'
+-- fieldsOf              the fields of a file
+-- basic, clock, model   the flag bits taken apart as in 003: bit 1 (BASIC in an RSID), bits 2 and 3, bits 4 and 5
+use Prim.Native.Nat.{ℕ, _/_, _%_}
 use mathlib.Core.List.{List}
-use mathlib.Core.Bool.{cond}
+use mathlib.Core.Bool.{Bool, cond}
 use lib.ListN.{length, getD}
 use lib.Dec.{eqb}
 use Rattle.fields.specs.Numbers.{be16, be32}
@@ -37,3 +38,12 @@ fieldsOf f =
       pages = added (be16 f 0x04) (getD f 0x79 0);
       reserved = added (be16 f 0x04) (be16 f 0x7A);
     }
+
+abbrev pub basic : Fields → Bool
+basic x = eqb (x .flags / 2 % 2) 1
+
+abbrev pub clock : Fields → ℕ
+clock x = x .flags / 4 % 4
+
+abbrev pub model : Fields → ℕ
+model x = x .flags / 16 % 4

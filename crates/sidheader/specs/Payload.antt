@@ -4,6 +4,7 @@
 -- after       the payload that follows its address
 -- whole       the payload that is the data whole
 -- payloadOf   the payload's address, and its first byte and length in the file
+-- initOf      test 12: 'the effective init (load address where the field is 0)'
 use Prim.Native.Nat.{ℕ, _+_, _-_}
 use mathlib.Core.Bool.{Bool, cond}
 use mathlib.Core.List.{List}
@@ -23,3 +24,6 @@ whole x = record { load = x .load; from = x .offset; len = x .size - x .offset }
 
 unfoldable pub payloadOf : List ℕ → Fields → Payload
 payloadOf f x = cond (addressed x) (after f x) (whole x)
+
+unfoldable pub initOf : Fields → Payload → ℕ
+initOf x p = cond (eqb (x .init) 0) (p .load) (x .init)

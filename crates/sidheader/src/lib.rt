@@ -1,8 +1,9 @@
-// The fields of a PSID or RSID header as they stand in the file, and where the payload lies. Nothing is tested here.
+// The fields of a PSID or RSID header as they stand in the file, where the payload lies, and the effective init. Nothing is
+// tested here.
 ghost use mathlib.Core.Path.{_≡_};
 ghost use Prim.Native.Nat.{_-_};
 ghost use Rattle.sidheader.specs.Fields.{added, fieldsOf};
-ghost use Rattle.sidheader.specs.Payload.{payloadOf};
+ghost use Rattle.sidheader.specs.Payload.{payloadOf, initOf};
 
 // The magic of each kind, four letters as a number with the first letter highest.
 pub const PSID: u32 = 0x50534944;
@@ -107,4 +108,11 @@ pub fn payload_of(s: &[u8], x: Fields) -> Payload
             len,
         }
     }
+}
+
+// internal: the effective init address.
+pub fn init_of(x: Fields, p: Payload) -> u16
+    ensures { λ r. ⌜ r ≡ initOf x p ⌝ }
+{
+    if x.init == 0 { p.load } else { x.init }
 }

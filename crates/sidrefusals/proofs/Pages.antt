@@ -10,6 +10,7 @@ use mathlib.Core.Bool.{Bool, true, false, not, _&&_, _||_, false≢true, or-true
 use native.Mathlib.Omega.{arith}
 use lib.Dec.{ltb, leb, eqb}
 use borrow.Author.Tests.{ltb-true, leb-true, eqb-true, eqb-false, not-true, lt-ltb, le-leb, ne-eqb}
+use Rattle.logic.specs.Cases.{cases}
 use Rattle.logic.specs.Truth.{both-left, both-right}
 use Rattle.sidheader.specs.declared.Payload.{Payload}
 use Rattle.sidrefusals.specs.Pages.{anyPage, between, touched, reservedPage}
@@ -25,24 +26,20 @@ pub record Some (start count : ℕ) (t : ℕ → Bool) : Type 0 where
 pub any-true : (start count : ℕ) (t : ℕ → Bool) → anyPage start count t ≡ true → Some start count t
 unfolding anyPage
 any-true start zero t e = absurd (false≢true e)
-any-true start (suc count) t e = go (t start) refl (any-true (start + 1) count t) e
-  where
-    go : (b : Bool) → t start ≡ b → (anyPage (start + 1) count t ≡ true → Some (start + 1) count t) → b || anyPage (start + 1) count t ≡ true → Some start (suc count) t
-    go true p rest q = record { page = start; low = omega arith; high = omega arith; passes = p }
-    go false p rest q =
-        let s = rest q in
-        record { page = s .page; low = omega (arith, s .low); high = omega (arith, s .high); passes = s .passes }
+any-true start (suc count) t e =
+    cases (t start)
+    (λ p. record { page = start; low = omega arith; high = omega arith; passes = p })
+    (λ p.
+    let s = any-true (start + 1) count t (rw p at e) in
+    record { page = s .page; low = omega (arith, s .low); high = omega (arith, s .high); passes = s .passes })
 
 pub true-any : (start count : ℕ) (t : ℕ → Bool) (n : ℕ) → start ≤ n → n < start + count → t n ≡ true → anyPage start count t ≡ true
 unfolding anyPage
 true-any start zero t n l h p = absurd (omega arith)
-true-any start (suc count) t n l h p = go (eqb n start) refl (true-any (start + 1) count t n)
-  where
-    go : (b : Bool) → eqb n start ≡ b → (start + 1 ≤ n → n < start + 1 + count → t n ≡ true → anyPage (start + 1) count t ≡ true) → t start || anyPage (start + 1) count t ≡ true
-    go true e rest = rw (← eqb-true n start e, p)
-    go false e rest =
-        let apart = eqb-false n start e in
-        rw (rest (omega arith) (omega arith) p) (or-true (t start))
+true-any start (suc count) t n l h p =
+    cases (eqb n start)
+    (λ e. rw (← eqb-true n start e, p))
+    (λ e. let apart = eqb-false n start e in rw (true-any (start + 1) count t n (omega arith) (omega arith) p) (or-true (t start)))
 
 pub any-between : (start count first last : ℕ)
     → not (eqb count 0) && leb first last && leb start last && ltb first (start + count) ≡ anyPage start count (between first last)

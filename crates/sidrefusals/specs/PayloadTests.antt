@@ -1,34 +1,26 @@
 -- Document 01, 'PSID and RSID': the tests of where the payload lies, 9 to 13, in the paper's order.
 -- dataBytes      how many bytes follow the header
--- initOf         'the effective init (load address where the field is 0)'
 -- barredInit     'below $07E8, in $A000-$BFFF or in $D000-$FFFF'
--- basic          flag bit 1, BASIC in an RSID
 -- payloadTests   the tests
 -- sidTests       1 to 13 of a file, whole
-use Prim.Native.Nat.{ℕ, _+_, _-_, _/_, _%_}
-use mathlib.Core.Bool.{Bool, not, _&&_, _||_, cond}
+use Prim.Native.Nat.{ℕ, _+_, _-_}
+use mathlib.Core.Bool.{Bool, not, _&&_, _||_}
 use mathlib.Core.List.{List, [], _∷_, _++_}
 use lib.Dec.{ltb, eqb}
 use Rattle.refusals.specs.Numbers.Reason.{noPayload, pastMemory, rsidLoad, rsidInit, freePages}
 use Rattle.refusals.specs.Tests.{Test, test}
 use Rattle.sidheader.specs.declared.Fields.{Fields}
 use Rattle.sidheader.specs.declared.Payload.{Payload}
-use Rattle.sidheader.specs.Fields.{fieldsOf}
-use Rattle.sidheader.specs.Payload.{addressed, payloadOf}
+use Rattle.sidheader.specs.Fields.{fieldsOf, basic}
+use Rattle.sidheader.specs.Payload.{addressed, payloadOf, initOf}
 use Rattle.sidrefusals.specs.HeaderTests.{isRsid, headerTests}
 use Rattle.sidrefusals.specs.Pages.{between, badPages}
 
 abbrev pub dataBytes : Fields → ℕ
 dataBytes x = x .size - x .offset
 
-unfoldable pub initOf : Fields → Payload → ℕ
-initOf x p = cond (eqb (x .init) 0) (p .load) (x .init)
-
 unfoldable pub barredInit : ℕ → Bool
 barredInit address = ltb address 0x07E8 || between 0xA000 0xBFFF address || between 0xD000 0xFFFF address
-
-abbrev pub basic : Fields → Bool
-basic x = eqb (x .flags / 2 % 2) 1
 
 abbrev pub payloadTests : Fields → Payload → List Test
 payloadTests x p =

@@ -1,10 +1,10 @@
-// Refusals 1 to 13: the tests of a PSID or RSID file, in the paper's order. The functions are for crates of ours.
+// Refusals 1 to 13: the tests of a PSID or RSID file, in the paper's order.
 ghost use mathlib.Core.Path.{_≡_};
 ghost use Prim.Native.Nat.{_+_, _-_, _/_, _^_, _<_};
 ghost use Rattle.refusals.specs.Tests.{firstOf};
 ghost use Rattle.sidrefusals.specs.HeaderTests.{headerTests};
 ghost use Rattle.sidrefusals.specs.Pages.{anyPage, between, badPages};
-ghost use Rattle.sidrefusals.specs.PayloadTests.{initOf, barredInit, payloadTests};
+ghost use Rattle.sidrefusals.specs.PayloadTests.{barredInit, payloadTests};
 use refusals::Verdict;
 use sidheader::Fields;
 use sidheader::Payload;
@@ -48,13 +48,6 @@ pub fn test_header(x: Fields) -> Verdict
     } else {
         Verdict::Passed
     }
-}
-
-// internal: the effective init address.
-pub fn init_of(x: Fields, p: Payload) -> u16
-    ensures { λ r. ⌜ r ≡ initOf x p ⌝ }
-{
-    if x.init == 0 { p.load } else { x.init }
 }
 
 // An address at which the init of an RSID may not stand.
@@ -119,7 +112,7 @@ pub fn test_payload(x: Fields, p: Payload) -> Verdict
     let none = own & (size < offset + 3) | !own & (size <= offset);
     let past = 65536 < load + p.len;
     let low = rsid & (load < 0x07E8);
-    let barred = is_barred_init(init_of(x, p));
+    let barred = is_barred_init(sidheader::init_of(x, p));
     let init = rsid & (basic & (x.init != 0) | !basic & barred);
     if none {
         Verdict::Failed(refusals::NO_PAYLOAD)

@@ -36,9 +36,10 @@ use Rattle.pair.specs.Pairs.{meaningOf}
 use Rattle.sidheader.specs.declared.Fields.{Fields}
 use Rattle.sidheader.specs.declared.Payload.{Payload}
 use Rattle.sidheader.specs.Fields.{rsid as magic}
+use Rattle.sidheader.specs.Payload.{initOf}
 use Rattle.sidrefusals.specs.HeaderTests.{headerTests}
 use Rattle.sidrefusals.specs.Pages.{anyPage, badPages}
-use Rattle.sidrefusals.specs.PayloadTests.{initOf, barredInit, payloadTests}
+use Rattle.sidrefusals.specs.PayloadTests.{barredInit, payloadTests}
 
 pub data Sum : Type 0 where
   means : ℕ → ℕ → Outcome Meaning → Sum

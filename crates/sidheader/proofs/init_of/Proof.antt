@@ -1,8 +1,8 @@
 -- `init_of` meets its contract. Assumes nothing.
 use borrow.Author.Tests.{eq-eqb, ne-eqb}
-use Rattle.sidrefusals.specs.PayloadTests.{initOf}
-use Rattle.sidrefusals.proofs.init_of.Statement.{statement}
-use Rattle.sidrefusals.proofs.init_of.Tie as tie
+use Rattle.sidheader.specs.Payload.{initOf}
+use Rattle.sidheader.proofs.init_of.Statement.{statement}
+use Rattle.sidheader.proofs.init_of.Tie as tie
 
 returns : tie.Need-returns
 unfolding initOf
