@@ -36,9 +36,9 @@ pub fn tune(file: &[u8], h: Header) {
         Kind::Psid => write(b": PSID accepted: "),
         Kind::Rsid => write(b": RSID accepted: "),
     }
-    quote(sid::part(file, h.title));
+    quote(sidparts::part(file, h.title));
     write(b" by ");
-    quote(sid::part(file, h.author));
+    quote(sidparts::part(file, h.author));
     write(b", ");
     songs(h.songs);
     write(b", loads to ");

@@ -3,13 +3,14 @@
 -- cut-off   the law
 use Prim.Native.Nat.{ℕ, _+_, _-_, _<_, _≤_}
 use mathlib.Core.Path.{_≡_, refl, sym, _∙_}
-use mathlib.Core.Bool.{Bool, true, false, not, _&&_, _||_, cond}
+use mathlib.Core.Bool.{true≢false}
 use mathlib.Core.List.{List}
 use native.Mathlib.Omega.{arith}
 use lib.ListN.{length, take}
 use lib.Seq.{length-take-le, getD-take}
 use lib.Dec.{eqb}
 use borrow.Author.Tests.{lt-ltb, le-ltb, ne-eqb, eqb-true}
+use Rattle.logic.specs.Cases.{cases}
 use Rattle.refusals.specs.Numbers.{Outcome}
 use Rattle.refusals.specs.Numbers.Outcome.{accepted}
 use Rattle.refusals.specs.declared.Verdict.{Verdict}
@@ -19,8 +20,8 @@ use Rattle.refusals.specs.Laws.{later, passed-none}
 use Rattle.fields.specs.Numbers.{be16, be32}
 use Rattle.sidheader.specs.declared.Fields.{Fields}
 use Rattle.sidheader.specs.Fields.{fieldsOf}
-use Rattle.sidheader.specs.Payload.{addressed, after, whole, payloadOf}
-use Rattle.sidrefusals.specs.HeaderTests.{one, two, isRsid, headerTests}
+use Rattle.sidheader.specs.Payload.{addressed, after, payloadOf}
+use Rattle.sidrefusals.specs.HeaderTests.{one, two, headerTests}
 use Rattle.sidrefusals.specs.PayloadTests.{payloadTests}
 use Rattle.sid.specs.Answers.{sidOutcome}
 use Rattle.sid.specs.Laws.{header}
@@ -83,26 +84,21 @@ header-resized x n h k = rw (le-ltb n 118 (omega arith), le-ltb n 124 h, le-ltb 
 offset-passed : (x : Fields) → firstOf (headerTests x) ≡ Passed → x .offset ≤ 124
 offset-passed x e =
     let none = passed-none (headerTests x) e in
-    go (one x) (two x) (isRsid x) (eqb (x .offset) 0x76) refl (eqb (x .offset) 0x7C) refl (none .1 .1 .0) (none .1 .1 .1 .1 .0)
-  where
-    go : (v w r a : Bool) → eqb (x .offset) 0x76 ≡ a → (b : Bool) → eqb (x .offset) 0x7C ≡ b
-        → not (v || w) || r && not w ≡ false → v && not a || w && not b ≡ false → x .offset ≤ 124
-    go v w r true p b q s t = omega (arith, eqb-true (x .offset) 0x76 p)
-    go v w r false p true q s t = omega (arith, eqb-true (x .offset) 0x7C q)
-    go true w r false p false q s t = absurd (mathlib.Core.Bool.true≢false t)
-    go false true r false p false q s t = absurd (mathlib.Core.Bool.true≢false t)
-    go false false r false p false q s t = absurd (mathlib.Core.Bool.true≢false s)
+    let version = none .1 .1 .0 in
+    let offset = none .1 .1 .1 .1 .0 in
+    cases (eqb (x .offset) 0x76) (λ p. omega (arith, eqb-true (x .offset) 0x76 p)) (λ p.
+    cases (eqb (x .offset) 0x7C) (λ q. omega (arith, eqb-true (x .offset) 0x7C q)) (λ q.
+    cases (one x) (λ v. absurd (true≢false (rw (v, p) at offset))) (λ v.
+    cases (two x) (λ w. absurd (true≢false (rw (v, w, q) at offset))) (λ w. absurd (true≢false (rw (v, w) at version))))))
 
 -- so long a file is past $FFFF wherever it is loaded
 too-long : (f : List ℕ) (x : Fields) → x .offset ≤ 124 → 65663 ≤ x .size → firstOf (payloadTests x (payloadOf f x)) ≡ Failed 10
 unfolding payloadOf
-too-long f x o h = go (addressed x) refl
-  where
-    go : (b : Bool) → addressed x ≡ b → firstOf (payloadTests x (cond b (after f x) (whole x))) ≡ Failed 10
-    go true e = rw (e, le-ltb (x .size - x .offset) 3 (omega arith), lt-ltb 65536 (after f x .load + (x .size - (x .offset + 2))) (omega arith))
-    go false e =
-        let some : x .size - x .offset ≡ 0 → ⊥ = omega arith in
-        rw (e, ne-eqb (x .size - x .offset) 0 some, lt-ltb 65536 (x .load + (x .size - x .offset)) (omega arith))
+too-long f x o h =
+    let some : x .size - x .offset ≡ 0 → ⊥ = omega arith in
+    cases (addressed x)
+    (λ e. rw (e, le-ltb (x .size - x .offset) 3 (omega arith), lt-ltb 65536 (after f x .load + (x .size - (x .offset + 2))) (omega arith)))
+    (λ e. rw (e, ne-eqb (x .size - x .offset) 0 some, lt-ltb 65536 (x .load + (x .size - x .offset)) (omega arith)))
 
 -- a long file is refused by its header or with 10
 by-long : (f : List ℕ) (v : Verdict) → firstOf (headerTests (fieldsOf f)) ≡ v → 65663 ≤ fieldsOf f .size

@@ -14,8 +14,8 @@ use Rattle.refusals.specs.Tests.{test, firstOf}
 use Rattle.refusals.specs.Laws.{two-ways, guarded-accepted}
 use Rattle.sid.specs.declared.Header.{Header}
 use Rattle.sid.specs.Answers.{sidOutcome}
-use Rattle.sid.specs.Loading.{loadOutcome}
-use Rattle.sid.specs.Speed.{speedBit, songSpeed, speedOutcome}
+use Rattle.sidload.specs.Loading.{loadOutcome}
+use Rattle.sidspeed.specs.Speed.{speedBit, songSpeed, speedOutcome}
 use Rattle.answers.specs.Answers.{noValue}
 use Rattle.answers.specs.Told.{Told, low-told}
 use Rattle.sidcalls.specs.Lists.{headerNumbers}

@@ -14,8 +14,8 @@ use Rattle.sidrefusals.specs.PayloadTests.{sidTests}
 use Rattle.sid.specs.declared.Header.{Header}
 use Rattle.sid.specs.Header.{headerOf}
 use Rattle.sid.specs.Answers.{sidOutcome}
-use Rattle.sid.specs.Loading.{loadOutcome}
-use Rattle.sid.specs.Speed.{speedBit, songSpeed, speedOutcome}
+use Rattle.sidload.specs.Loading.{loadOutcome}
+use Rattle.sidspeed.specs.Speed.{speedBit, songSpeed, speedOutcome}
 use Rattle.answers.specs.Told.{Low, tests-low}
 
 pub sid-low : (f : List ℕ) → Low (sidOutcome f)

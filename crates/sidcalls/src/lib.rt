@@ -3,11 +3,11 @@
 ghost use mathlib.Core.Path.{_≡_};
 ghost use lib.ListN.{length};
 ghost use Rattle.sid.specs.Answers.{sidOutcome};
-ghost use Rattle.sid.specs.Loading.{loadOutcome, memoryAfter};
-ghost use Rattle.sid.specs.Speed.{speedOutcome};
+ghost use Rattle.sidload.specs.Loading.{loadOutcome, memoryAfter};
+ghost use Rattle.sidspeed.specs.Speed.{speedOutcome};
 ghost use Rattle.answers.specs.Answers.{packed, noValue, cellsAfter};
 ghost use Rattle.sidcalls.specs.Lists.{headerNumbers};
-use sid::SongSpeed;
+use sidspeed::SongSpeed;
 use sid::Tested;
 
 mod tunes;
@@ -42,7 +42,7 @@ pub fn load(file: &[u8], memory: &mut [u8]) -> u64
     ensures answer { λ r. ⌜ r ≡ packed noValue (loadOutcome (now (file .entry)) (length (now (memory .entry)))) ⌝ }
     ensures cells { λ _. ⌜ now (memory .exit) ≡ memoryAfter (now (file .entry)) (now (memory .entry)) ⌝ }
 {
-    match sid::put_payload(file, memory) {
+    match sidload::put_payload(file, memory) {
         Tested::Refused(x) => answers::refused(x),
         Tested::Passed(_, _) => 0,
     }
@@ -52,7 +52,7 @@ pub fn load(file: &[u8], memory: &mut [u8]) -> u64
 pub fn speed(file: &[u8], song: u32) -> u64
     ensures { λ r. ⌜ r ≡ packed (λ bit. bit) (speedOutcome (now (file .entry)) song) ⌝ }
 {
-    match sid::speed_of_song(file, song as u64) {
+    match sidspeed::speed_of_song(file, song as u64) {
         SongSpeed::Refused(x) => answers::refused(x),
         SongSpeed::Bit(bit) => bit as u64,
     }

@@ -16,7 +16,7 @@ fn main() {
     let mut file = [0u8; 66000];
     let mut memory = [0u8; 65536];
     let n = io::read_full(0, &mut file);
-    let answer = sid::load(&file[..n], &mut memory);
+    let answer = sidload::load(&file[..n], &mut memory);
     match answer {
         Reading::Accepted(_) => {
             io::write_all(STDOUT_FILENO, &memory);

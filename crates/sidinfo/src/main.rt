@@ -3,8 +3,8 @@ use libc::STDOUT_FILENO;
 use refusals::Refusal;
 use sid::Header;
 use sid::Kind;
-use sid::Piece;
 use sid::Reading;
+use sidparts::Piece;
 
 fn write(text: &[u8]) {
     io::write_all(STDOUT_FILENO, text);

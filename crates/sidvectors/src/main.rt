@@ -6,9 +6,9 @@ use libc::STDOUT_FILENO;
 use refusals::Refusal;
 use sid::Header;
 use sid::Kind;
-use sid::Piece;
 use sid::Reading;
-use sid::SongSpeed;
+use sidparts::Piece;
+use sidspeed::SongSpeed;
 
 // What a cell of memory holds before a load; no payload has this byte.
 const EMPTY: u8 = 0xA5;
@@ -118,7 +118,7 @@ fn show_reading(answer: Reading) {
 
 // A line for a load into a memory that is not of 65,536 cells, or that is.
 fn load_line(name: &[u8], file: &[u8], memory: &mut [u8]) {
-    let answer = sid::load(file, memory);
+    let answer = sidload::load(file, memory);
     write(name);
     show(b"memory", memory.len());
     match answer {
@@ -129,7 +129,7 @@ fn load_line(name: &[u8], file: &[u8], memory: &mut [u8]) {
 }
 
 fn show_song(file: &[u8], word: &[u8], song: u64) {
-    match sid::speed_of_song(file, song) {
+    match sidspeed::speed_of_song(file, song) {
         SongSpeed::Bit(b) => show(word, b as usize),
         SongSpeed::Refused(x) => show(word, x.number as usize),
     }
@@ -169,16 +169,16 @@ fn piece_line(name: &[u8], file: &[u8]) {
     write(name);
     write(b" pieces");
     show_pieces(
-        sid::title(file),
-        sid::author(file),
-        sid::released(file),
-        sid::payload(file),
+        sidparts::title(file),
+        sidparts::author(file),
+        sidparts::released(file),
+        sidparts::payload(file),
     );
 }
 
 // A line with the parts of a tune, of a file's first n bytes and the header of the whole.
 fn tune_line(name: &[u8], file: &[u8], h: Header, n: usize) {
-    let cut = sid::part(file, Span { from: 0, len: n });
+    let cut = sidparts::part(file, Span { from: 0, len: n });
     let title = tune::shown(cut, h, Piece::Title);
     let author = tune::shown(cut, h, Piece::Author);
     let released = tune::shown(cut, h, Piece::Released);

@@ -16,11 +16,11 @@ use Rattle.fields.specs.Parts.{partOf}
 use Rattle.refusals.specs.Numbers.Outcome.{accepted}
 use Rattle.fields.specs.declared.Span.{Span}
 use Rattle.sid.specs.declared.Header.{Header}
-use Rattle.sid.specs.declared.Piece.{Piece}
-use Rattle.sid.specs.declared.Piece.the-variants.{Title, Author, Released, Payload}
+use Rattle.sidparts.specs.declared.Piece.{Piece}
+use Rattle.sidparts.specs.declared.Piece.the-variants.{Title, Author, Released, Payload}
 use Rattle.sid.specs.Header.{textAt, headerOf}
 use Rattle.sid.specs.Answers.{sidOutcome}
-use Rattle.sid.specs.Pieces.{spanOf, pieceIn}
+use Rattle.sidparts.specs.Pieces.{spanOf, pieceIn}
 use Rattle.sid.specs.Laws.{accepted-header, text-part, payload-whole}
 use Rattle.tune.specs.Tune.{tuneOf, placeIn}
 

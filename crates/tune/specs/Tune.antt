@@ -6,8 +6,8 @@ use mathlib.Core.List.{List}
 use denote.Ref.{RefT}
 use Rattle.fields.specs.declared.Span.{Span}
 use Rattle.sid.specs.declared.Header.{Header}
-use Rattle.sid.specs.declared.Piece.{Piece}
-use Rattle.sid.specs.declared.Piece.the-variants.{Title, Author, Released, Payload}
+use Rattle.sidparts.specs.declared.Piece.{Piece}
+use Rattle.sidparts.specs.declared.Piece.the-variants.{Title, Author, Released, Payload}
 use Rattle.tune.specs.declared.Tune.{Tune}
 
 abbrev pub tuneOf : RefT (List ℕ) → Header → Tune

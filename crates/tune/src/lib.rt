@@ -1,13 +1,14 @@
 // A PSID or RSID file as one thing: the lent file with where its title, author, released text and payload lie in it. The
-// struct holds a reference, so the functions over it are few and thin: each takes it apart and leaves the work to `sid`.
+// struct holds a reference, so the functions over it are few and thin: each takes it apart and leaves the work to
+// `sidparts`.
 // `shown` has plain parameters: who calls it meets no such struct.
 ghost use mathlib.Core.Path.{_≡_};
 ghost use Rattle.fields.specs.Parts.{partOf};
-ghost use Rattle.sid.specs.Pieces.{spanOf};
+ghost use Rattle.sidparts.specs.Pieces.{spanOf};
 ghost use Rattle.tune.specs.Tune.{tuneOf};
 use fields::Span;
 use sid::Header;
-use sid::Piece;
+use sidparts::Piece;
 
 // The file as it was lent, and where its parts lie. It may be made by hand: a part has of its place the bytes in the file.
 pub struct Tune<'a> {
@@ -35,28 +36,28 @@ pub fn of<'a>(file: &'a [u8], h: Header) -> Tune<'a>
 pub fn title<'a>(t: Tune<'a>) -> &'a [u8]
     ensures { λ r. ⌜ now r ≡ partOf (now (t .entry .file)) (t .entry .title) ⌝ }
 {
-    sid::part(t.file, t.title)
+    sidparts::part(t.file, t.title)
 }
 
 // The author's name, a part of the lent file.
 pub fn author<'a>(t: Tune<'a>) -> &'a [u8]
     ensures { λ r. ⌜ now r ≡ partOf (now (t .entry .file)) (t .entry .author) ⌝ }
 {
-    sid::part(t.file, t.author)
+    sidparts::part(t.file, t.author)
 }
 
 // The released text, a part of the lent file.
 pub fn released<'a>(t: Tune<'a>) -> &'a [u8]
     ensures { λ r. ⌜ now r ≡ partOf (now (t .entry .file)) (t .entry .released) ⌝ }
 {
-    sid::part(t.file, t.released)
+    sidparts::part(t.file, t.released)
 }
 
 // The payload without its two address bytes, a part of the lent file.
 pub fn payload<'a>(t: Tune<'a>) -> &'a [u8]
     ensures { λ r. ⌜ now r ≡ partOf (now (t .entry .file)) (t .entry .payload) ⌝ }
 {
-    sid::part(t.file, t.payload)
+    sidparts::part(t.file, t.payload)
 }
 
 // A part by its name, of a file and its accepted header.

@@ -3,8 +3,8 @@
 ghost use mathlib.Core.Path.{_≡_};
 ghost use lib.ListN.{length};
 ghost use Rattle.sid.specs.Answers.{sidOutcome};
-ghost use Rattle.sid.specs.Loading.{loadOutcome, memoryAfter};
-ghost use Rattle.sid.specs.Speed.{speedOutcome};
+ghost use Rattle.sidload.specs.Loading.{loadOutcome, memoryAfter};
+ghost use Rattle.sidspeed.specs.Speed.{speedOutcome};
 ghost use Rattle.mus.specs.Song.{musOutcome};
 ghost use Rattle.events.specs.Listing.{listing};
 ghost use Rattle.pair.specs.Pairs.{meaningOf};

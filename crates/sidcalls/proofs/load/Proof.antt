@@ -1,7 +1,7 @@
 use mathlib.Core.Path.{sym, ap, _∙_, subst}
 use borrow.Author.Needs.{needs}
 use Rattle.sid.specs.Answers.{toldTested}
-use Rattle.sid.specs.Laws.{load-headed}
+use Rattle.sidload.specs.Laws.{load-headed}
 use Rattle.answers.specs.Answers.{packed, noValue}
 use Rattle.answers.specs.Told.{Low, low-fits}
 use Rattle.sidcalls.proofs.Places.{load-low}

@@ -1,6 +1,6 @@
 use mathlib.Core.Path.{sym, ap, _∙_, subst}
 use borrow.Author.Needs.{needs}
-use Rattle.sid.specs.Speed.{toldSpeed}
+use Rattle.sidspeed.specs.Speed.{toldSpeed}
 use Rattle.answers.specs.Answers.{packed}
 use Rattle.answers.specs.Told.{Low, low-fits}
 use Rattle.sidcalls.proofs.Places.{speed-low}
