@@ -1,4 +1,4 @@
-// Two lent lists filled in step, for crates of ours: offsets and jiffies of events, from one event on.
+// Two lent lists filled in step: offsets and jiffies of events, from one event on.
 ghost use mathlib.Core.Path.{_≡_};
 ghost use Prim.Native.Nat.{_<_};
 ghost use lib.ListN.{length};

@@ -15,14 +15,13 @@
 use Prim.Native.Nat.{ℕ, zero, suc, _+_, _-_, _*_, _≤_, _<_}
 use mathlib.Core.Path.{_≡_, refl, sym, ap, _∙_}
 use mathlib.Core.Bool.{true, false, _||_}
-use mathlib.Core.List.{List, [], _∷_, _++_, map, append-assoc, append-nil}
+use mathlib.Core.List.{List, [], _∷_, _++_, map}
 use mathlib.Core.Logic.{_⊎_, inl, inr}
 use native.Mathlib.Omega.{arith}
 use native.Mathlib.Nat.{not-suc-le-zero, le-of-suc-le-suc}
 use native.Mathlib.Decide.{decLe}
 use lib.Dec.{eqb, ltb}
-use lib.ListN.{length, take, drop, getD, length-append, length-take, length-drop, length-map, take-append-drop, drop-of-length-le, List·getD-append}
-use lib.Seq.{getD-append-add, getD-take, getD-drop, take-add, drop-drop, drop-append-le}
+use lib.ListN.{length, take, drop, getD, length-take, length-drop, length-map}
 use borrow.Author.Tests.{eq-eqb, ne-eqb, eqb-true, not-false}
 use Rattle.refusals.specs.Numbers.{Outcome}
 use Rattle.refusals.specs.Numbers.Outcome.{accepted, refused}
@@ -35,7 +34,7 @@ use Rattle.bodies.specs.Bodies.{Event}
 use Rattle.mus.specs.declared.Voice.{Voice}
 use Rattle.mus.specs.declared.Song.{Song}
 use Rattle.mus.specs.Song.{musOutcome}
-use Rattle.cells.specs.Window.{filled}
+use Rattle.cells.specs.Laws.{filled-length, filled-at, filled-beyond, filled-split}
 use Rattle.walk.specs.Times.{offsetsOf, meanings, jiffiesOf}
 use Rattle.events.specs.declared.Listed.{Listed}
 use Rattle.events.specs.declared.Listed.the-variants.{Count, Refused}
@@ -104,36 +103,6 @@ countIn f v first cells = countOf (length cells) first (playedIn f v)
 abbrev pub numbersOf : List Event → List ℕ
 numbersOf es = map (λ (e : Event). e .number) es
 
--- a list with a window in its first cells, where there is enough to fill them
-module _ (first n : ℕ) (xs cells : List ℕ) (enough : n ≤ length xs - first) where
-  window-length : length (take n (drop first xs)) ≡ n
-  window-length = simp (length-take, length-drop) (omega arith)
-
-  filled-length : n ≤ length cells → length (filled first n xs cells) ≡ length cells
-  filled-length room = simp (length-append, window-length, length-drop) (omega arith)
-
-  filled-at : (i : ℕ) → i < n → getD (filled first n xs cells) i 0 ≡ getD xs (first + i) 0
-  filled-at i h = List·getD-append (take n (drop first xs)) (drop n cells) 0 i (omega (arith, window-length)) ∙ getD-take n (drop first xs) i 0 h ∙ getD-drop first xs i 0
-
-  filled-beyond : (i : ℕ) → n ≤ i → getD (filled first n xs cells) i 0 ≡ getD cells i 0
-  filled-beyond i h =
-      let w = take n (drop first xs) in
-      ap (λ (k : ℕ). getD (w ++ drop n cells) k 0) (omega (arith, window-length))
-      ∙ getD-append-add w (drop n cells) (i - n) 0
-      ∙ getD-drop n cells (i - n) 0
-      ∙ ap (λ (k : ℕ). getD cells k 0) (omega arith)
-
--- a window in two parts, where the first is full, or the second empty
-filled-split : (first a n m k : ℕ) (xs cells : List ℕ) → n ≡ m + k → m ≤ a → a ≤ length cells → (m ≡ a) ⊎ (k ≡ 0)
-    → filled first n xs cells ≡ filled first m xs (take a cells) ++ filled (first + a) k xs (drop a cells)
-filled-split first a n m k xs cells en hm ha (inl e) =
-    let none : drop a (take a cells) ≡ [] = drop-of-length-le (take a cells) {i = a} (omega (arith, length-take a cells)) in
-    rw (en, e, none, append-nil, take-add a k (drop first xs), drop-drop a first xs, drop-drop k a cells, append-assoc)
-filled-split first a n m k xs cells en hm ha (inr e) =
-    let whole : n ≡ m = omega arith in
-    let rest : drop m cells ≡ drop m (take a cells) ++ drop a cells = ap (λ (r : List ℕ). drop m r) (sym (take-append-drop a cells)) ∙ drop-append-le m (take a cells) (drop a cells) (omega (arith, length-take a cells)) in
-    rw (whole, e, append-assoc) (ap (λ (r : List ℕ). take m (drop first xs) ++ r) rest)
-
 length-offsets : (base : ℕ) (es : List Event) → length (offsetsOf base es) ≡ length es
 unfolding offsetsOf
 length-offsets base es = length-map es (λ (e : Event). base + 2 * e .number)
@@ -157,14 +126,14 @@ module _ (f : List ℕ) (v : Voice) (first : ℕ) (os js : List ℕ) where
   pub cell-offset : (i : ℕ) → i < countIn f v first os → getD (windowIn f v first os js .offsets) i 0 ≡ v .offset + 2 * getD (numbersOf (playedIn f v)) (first + i) 0
   cell-offset i h =
       let es = playedIn f v in
-      filled-at first (countIn f v first os) (offsetsOf (v .offset) es) os (omega (arith, length-offsets (v .offset) es)) i h
+      filled-at first (countIn f v first os) (offsetsOf (v .offset) es) os (omega (arith, length-offsets (v .offset) es)) i 0 h
       ∙ offset-at (v .offset) es (first + i) (omega arith)
 
   -- 'cell i of the second the jiffy'
   pub cell-jiffy : (i : ℕ) → i < countIn f v first os → getD (windowIn f v first os js .jiffies) i 0 ≡ jiffyOf (meanings (playedIn f v)) (first + i)
   cell-jiffy i h =
       let es = playedIn f v in
-      filled-at first (countIn f v first os) (jiffiesOf es) js (omega (arith, length-listed es)) i h
+      filled-at first (countIn f v first os) (jiffiesOf es) js (omega (arith, length-listed es)) i 0 h
       ∙ jiffy-at es (first + i) (omega arith)
 
   -- 'what lies beyond keeps its old content'
@@ -172,8 +141,8 @@ module _ (f : List ℕ) (v : Voice) (first : ℕ) (os js : List ℕ) where
   cell-beyond i h =
       let es = playedIn f v in
       let n = countIn f v first os in (
-        filled-beyond first n (offsetsOf (v .offset) es) os (omega (arith, length-offsets (v .offset) es)) i h,
-        filled-beyond first n (jiffiesOf es) js (omega (arith, length-listed es)) i h,
+        filled-beyond first n (offsetsOf (v .offset) es) os (omega (arith, length-offsets (v .offset) es)) i 0 h,
+        filled-beyond first n (jiffiesOf es) js (omega (arith, length-listed es)) i 0 h,
       )
 
   -- 'No call changes a lent cell that it doesn't fill'
