@@ -2,16 +2,24 @@
 -- headOf      the numbers of a file
 -- badLength   'voice length 0 or odd'
 -- voicesEnd   where the voices end and the text begins
+-- voicesOf    where the voices lie, one after the other from byte 8 on
 -- headTests   21 to 24, in the paper's order
+-- toldHead    the paper's number and values for each case of an answer
+-- headOutcome the first of 21 to 24 that applies, else where the voices lie
 use Prim.Native.Nat.{ℕ, _+_, _-_, _%_}
 use mathlib.Core.Bool.{Bool, _||_}
 use mathlib.Core.List.{List, [], _∷_}
 use lib.ListN.{length}
 use lib.Dec.{ltb, eqb}
+use Rattle.refusals.specs.Numbers.{Outcome}
+use Rattle.refusals.specs.Numbers.Outcome.{accepted, refused}
 use Rattle.refusals.specs.Numbers.Reason.{musShort, musPastMemory, voiceLength, voicesPastFile}
-use Rattle.refusals.specs.Tests.{Test, test}
+use Rattle.refusals.specs.Tests.{Test, test, firstOf, guarded}
 use Rattle.fields.specs.Numbers.{le16}
 use Rattle.container.specs.declared.head.Head.{Head}
+use Rattle.container.specs.declared.Voices.{Voices}
+use Rattle.container.specs.declared.Heading.{Heading}
+use Rattle.container.specs.declared.Heading.the-variants.{Fits, Refused}
 
 unfoldable pub headOf : List ℕ → Head
 headOf f =
@@ -29,6 +37,16 @@ badLength len = eqb len 0 || eqb (len % 2) 1
 abbrev pub voicesEnd : Head → ℕ
 voicesEnd x = 8 + x .len1 + x .len2 + x .len3
 
+abbrev pub voicesOf : Head → Voices
+voicesOf x =
+    record {
+      load = x .load;
+      voice1 = record { from = 8; len = x .len1 };
+      voice2 = record { from = 8 + x .len1; len = x .len2 };
+      voice3 = record { from = 8 + x .len1 + x .len2; len = x .len3 };
+      end = voicesEnd x;
+    }
+
 abbrev pub headTests : Head → List Test
 headTests x =
     -- 21: under 8 bytes
@@ -40,3 +58,10 @@ headTests x =
     -- 24: voices run past the file
     ∷ test voicesPastFile (ltb (x .size) (voicesEnd x))
     ∷ []
+
+abbrev pub toldHead : Heading → Outcome Voices
+toldHead (Fits v) = accepted v
+toldHead (Refused x) = refused (x .number) (x .place)
+
+unfoldable pub headOutcome : List ℕ → Outcome Voices
+headOutcome f = guarded (firstOf (headTests (headOf f))) (accepted (voicesOf (headOf f)))

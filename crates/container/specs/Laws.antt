@@ -2,12 +2,14 @@
 -- none-layout, layout-none         'exactly when'
 -- layout-of                        the layout that is given out
 -- line-part, lines-part            the span of a line names the line, so in a layout
--- VoiceFits, voice1-fits, ..       a voice has an even number of bytes, not 0, and lies in the file
--- short-file                       at most 65,536 bytes
--- voices-within                    the voices end within the file
+-- VoiceFits                        a voice has an even number of bytes, not 0, and lies in the file
+-- HeadFits, head-fits              what 21 to 24 leave: a file of at most 65,536 bytes, and three such voices
+-- head-none                        an answer with the voices: none of 21 to 24 applies, and it is where they lie
+-- head-first, layout-head          21 to 24 come first; where none of 21 to 26 applies, none of 21 to 24 does
+-- short-file, voices-within, voice1-fits, ..   the same of a right container
 -- text-right, text-last, text-whole   the text is five lines and a $00, and the file ends with it
 use Prim.Native.Nat.{ℕ, _+_, _-_, _%_, _<_, _≤_}
-use mathlib.Core.Path.{_≡_}
+use mathlib.Core.Path.{_≡_, sym}
 use mathlib.Core.Bool.{true, false, _||_}
 use mathlib.Core.List.{List, []}
 use native.Mathlib.Omega.{arith}
@@ -15,15 +17,18 @@ use lib.ListN.{length, take, drop, drop-of-length-le}
 use lib.Dec.{ltb, eqb}
 use borrow.Author.Tests.{ltb-false, eqb-false, not-false}
 use Rattle.logic.specs.Truth.{neither}
-use Rattle.refusals.specs.Numbers.Outcome.{accepted}
-use Rattle.refusals.specs.Tests.{None, firstOf}
-use Rattle.refusals.specs.Laws.{passed-none, none-passed, guarded-accepted}
+use Rattle.refusals.specs.Numbers.Outcome.{accepted, refused}
+use Rattle.refusals.specs.declared.Verdict.{Verdict}
+use Rattle.refusals.specs.declared.Verdict.the-variants.{Passed, Failed}
+use Rattle.refusals.specs.Tests.{None, firstOf, guarded}
+use Rattle.refusals.specs.Laws.{passed-none, none-passed, guarded-accepted, later, first-append, two-ways}
 use Rattle.fields.specs.declared.Span.{Span}
 use Rattle.fields.specs.Parts.{partOf}
+use Rattle.container.specs.declared.Voices.{Voices}
 use Rattle.container.specs.declared.Layout.{Layout}
-use Rattle.container.specs.Head.{headOf, badLength, voicesEnd}
-use Rattle.container.specs.Text.{lineStart, line, textFits, textEnd, spanOf, textOf}
-use Rattle.container.specs.Layout.{layoutOf, containerTests, containerOutcome}
+use Rattle.container.specs.Head.{headOf, badLength, voicesEnd, voicesOf, headTests, headOutcome}
+use Rattle.container.specs.Text.{lineStart, line, textFits, textEnd, spanOf, textOf, textTests}
+use Rattle.container.specs.Layout.{textIn, layoutOf, containerTests, containerOutcome}
 use Rattle.container.specs.TextLaws.{take-line}
 use Rattle.container.specs.TextForm.{textForm, text-split}
 
@@ -62,14 +67,58 @@ even-length len e =
 abbrev pub VoiceFits : List ℕ → Span → Type 0
 VoiceFits f s = (s .len % 2 ≡ 0) × (0 < s .len) × (s .from + s .len ≤ length f) × (s .len ≤ 65535)
 
+pub record HeadFits (f : List ℕ) (v : Voices) : Type 0 where
+  pub short : length f ≤ 65536
+  pub within : v .end ≤ length f
+  pub voice1 : VoiceFits f (v .voice1)
+  pub voice2 : VoiceFits f (v .voice2)
+  pub voice3 : VoiceFits f (v .voice3)
+
+pub head-fits : (f : List ℕ) → None (headTests (headOf f)) → HeadFits f (voicesOf (headOf f))
+unfolding headOf
+head-fits f none =
+    let x = headOf f in
+    let short = ltb-false 65536 (length f) (neither (ltb 65536 (length f)) (ltb 65536 (x .load + (length f - 2))) (none .1 .0) .0) in
+    let within = ltb-false (length f) (voicesEnd x) (none .1 .1 .1 .0) in
+    let p = neither (badLength (x .len1) || badLength (x .len2)) (badLength (x .len3)) (none .1 .1 .0) in
+    let q = neither (badLength (x .len1)) (badLength (x .len2)) (p .0) in
+    let e1 = even-length (x .len1) (q .0) in
+    let e2 = even-length (x .len2) (q .1) in
+    let e3 = even-length (x .len3) (p .1) in
+    record {
+      short = short;
+      within = within;
+      voice1 = (e1 .0, e1 .1, omega arith, omega arith);
+      voice2 = (e2 .0, e2 .1, omega arith, omega arith);
+      voice3 = (e3 .0, e3 .1, omega arith, omega arith);
+    }
+
+pub head-none : (f : List ℕ) (v : Voices) → headOutcome f ≡ accepted v → None (headTests (headOf f)) × (voicesOf (headOf f) ≡ v)
+unfolding headOutcome
+head-none f v e = let p = guarded-accepted (firstOf (headTests (headOf f))) v (voicesOf (headOf f)) e in (passed-none (headTests (headOf f)) (p .0), p .1)
+
+pub head-first : (f : List ℕ) (n p : ℕ) → headOutcome f ≡ refused n p → containerOutcome f ≡ refused n p
+unfolding headOutcome containerOutcome containerTests
+head-first f n p e = rw (first-append (headTests (headOf f)) (textTests (textIn f) (length f))) (go (firstOf (headTests (headOf f))) e)
+  where
+    go : (v : Verdict) → guarded v (accepted (voicesOf (headOf f))) ≡ refused n p → guarded (later v (firstOf (textTests (textIn f) (length f)))) (accepted (layoutOf f)) ≡ refused n p
+    go Passed q = absurd (two-ways (sym q))
+    go (Failed m) q = cc
+
 module _ (f : List ℕ) (none : None (containerTests f)) where
+  head-clear : None (headTests (headOf f))
+  unfolding containerTests
+  head-clear = (none .0, (none .1 .0, (none .1 .1 .0, (none .1 .1 .1 .0, tt))))
+
+  pub layout-head : headOutcome f ≡ accepted (voicesOf (headOf f))
+  unfolding headOutcome
+  layout-head = rw (none-passed (headTests (headOf f)) head-clear)
+
   pub short-file : length f ≤ 65536
-  unfolding containerTests headOf
-  short-file = ltb-false 65536 (length f) (neither (ltb 65536 (length f)) (ltb 65536 (headOf f .load + (length f - 2))) (none .1 .0) .0)
+  short-file = head-fits f head-clear .short
 
   pub voices-within : voicesEnd (headOf f) ≤ length f
-  unfolding containerTests headOf
-  voices-within = ltb-false (length f) (voicesEnd (headOf f)) (none .1 .1 .1 .0)
+  voices-within = head-fits f head-clear .within
 
   pub text-right : textFits f (voicesEnd (headOf f)) ≡ true
   unfolding containerTests textOf
@@ -91,22 +140,14 @@ module _ (f : List ℕ) (none : None (containerTests f)) where
       let at = voicesEnd (headOf f) in
       rw (drop-of-length-le f text-last) at (text-split f at text-right)
 
-  good-lengths : (badLength (headOf f .len1) ≡ false) × (badLength (headOf f .len2) ≡ false) × (badLength (headOf f .len3) ≡ false)
-  unfolding containerTests
-  good-lengths =
-      let x = headOf f in
-      let p = neither (badLength (x .len1) || badLength (x .len2)) (badLength (x .len3)) (none .1 .1 .0) in
-      let q = neither (badLength (x .len1)) (badLength (x .len2)) (p .0) in
-      (q .0, q .1, p .1)
-
   pub voice1-fits : VoiceFits f (layoutOf f .voice1)
   unfolding layoutOf
-  voice1-fits = let e = even-length (headOf f .len1) (good-lengths .0) in (e .0, e .1, omega (arith, voices-within), omega (arith, voices-within, short-file))
+  voice1-fits = head-fits f head-clear .voice1
 
   pub voice2-fits : VoiceFits f (layoutOf f .voice2)
   unfolding layoutOf
-  voice2-fits = let e = even-length (headOf f .len2) (good-lengths .1) in (e .0, e .1, omega (arith, voices-within), omega (arith, voices-within, short-file))
+  voice2-fits = head-fits f head-clear .voice2
 
   pub voice3-fits : VoiceFits f (layoutOf f .voice3)
   unfolding layoutOf
-  voice3-fits = let e = even-length (headOf f .len3) (good-lengths .2) in (e .0, e .1, omega (arith, voices-within), omega (arith, voices-within, short-file))
+  voice3-fits = head-fits f head-clear .voice3

@@ -9,7 +9,7 @@
 -- text-join         what has that form fits, and ends with the $00
 use Prim.Native.Nat.{ℕ, suc, _+_, _<_}
 use mathlib.Core.Path.{_≡_, refl, sym, ap, _∙_}
-use mathlib.Core.Bool.{Bool, true, false, not, _&&_, cond}
+use mathlib.Core.Bool.{Bool, true, not, _&&_}
 use mathlib.Core.List.{List, [], _∷_, _++_}
 use native.Mathlib.Omega.{arith}
 use native.Mathlib.Numerals.{add-one}
@@ -17,6 +17,7 @@ use lib.ListN.{length, drop, getD, take-append-drop, length-drop, List·getD-eq-
 use lib.Seq.{drop-cons, drop-drop, drop-append-seam}
 use lib.Dec.{ltb, leb, eqb}
 use borrow.Author.Tests.{not-true, ltb-true, ltb-false, eqb-true, lt-ltb}
+use Rattle.logic.specs.Cases.{cases}
 use Rattle.logic.specs.Truth.{both}
 use Rattle.container.specs.Text.{closes, lineBytes, lineAt, lineFits, nextLine, lineStart, line, zeroAt, textFits, textEnd}
 use Rattle.container.specs.TextLaws.{take-line}
@@ -40,32 +41,20 @@ GoodLines l1 l2 l3 l4 l5 = (goodLine l1 ≡ true) × (goodLine l2 ≡ true) × (
 line-plain : (s : List ℕ) → plain (lineBytes s) ≡ true
 unfolding lineBytes
 line-plain [] = refl
-line-plain (b ∷ bs) = go (closes b) refl (line-plain bs)
-  where
-    go : (z : Bool) → closes b ≡ z → plain (lineBytes bs) ≡ true → plain (cond z [] (b ∷ lineBytes bs)) ≡ true
-    go true p e = refl
-    go false p e = rw (p, e)
+line-plain (b ∷ bs) = cases (closes b) (λ e. rw e) (λ e. rw (e, e, line-plain bs))
 
 plain-line : (l rest : List ℕ) → plain l ≡ true → lineBytes (closedLine l rest) ≡ l
 unfolding lineBytes
 plain-line [] rest e = refl
-plain-line (b ∷ bs) rest e = go (closes b) refl (plain-line bs rest)
-  where
-    go : (z : Bool) → closes b ≡ z → (plain bs ≡ true → lineBytes (closedLine bs rest) ≡ bs) → cond z [] (b ∷ lineBytes (closedLine bs rest)) ≡ b ∷ bs
-    go true p h =
-        let q = not-true (closes b) (both (not (closes b)) (plain bs) e .0) in
-        let z : _≡_ {A = ℕ} 0 1 = cc in
-        absurd (omega arith)
-    go false p h = ap (λ (l : List ℕ). b ∷ l) (h (both (not (closes b)) (plain bs) e .1))
+plain-line (b ∷ bs) rest e =
+    let p = both (not (closes b)) (plain bs) e in
+    rw (not-true (closes b) (p .0)) (ap (λ (l : List ℕ). b ∷ l) (plain-line bs rest (p .1)))
 
 module _ (f : List ℕ) where
   -- a byte that is not 0 lies in the file
   inside : (k : ℕ) → getD f k 0 ≡ 0x0D → k < length f
-  inside k e = go (ltb k (length f)) refl
-    where
-      go : (b : Bool) → ltb k (length f) ≡ b → k < length f
-      go true p = ltb-true k (length f) p
-      go false p = absurd (omega (arith, e, List·getD-eq-default f 0 (ltb-false k (length f) p)))
+  inside k e =
+      cases (ltb k (length f)) (ltb-true k (length f)) (λ p. absurd (omega (arith, e, List·getD-eq-default f 0 (ltb-false k (length f) p))))
 
   line-split : (s : ℕ) → lineFits f s ≡ true → drop s f ≡ closedLine (lineAt f s) (drop (nextLine f s) f)
   line-split s e =
@@ -90,8 +79,8 @@ module _ (f : List ℕ) where
       let short : k < length f = omega (arith, length-drop k f, ap length e) in
       let split = sym (drop-cons f k 0 short) ∙ e in
       let byte : getD f k 0 ≡ b = cc in
-      let behind : drop (suc k) f ≡ rest = cc in
-      (short, byte, rw (add-one k) behind)
+      let after : drop (suc k) f ≡ rest = cc in
+      (short, byte, rw (add-one k) after)
 
   line-join : (s : ℕ) (l rest : List ℕ) → goodLine l ≡ true → drop s f ≡ closedLine l rest
       → (lineAt f s ≡ l) × (lineFits f s ≡ true) × (drop (nextLine f s) f ≡ rest)

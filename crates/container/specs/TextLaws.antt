@@ -4,29 +4,21 @@
 -- line-within   a line ends within any bound of its start and the file
 use Prim.Native.Nat.{ℕ, _+_, _-_, _≤_}
 use mathlib.Core.Path.{_≡_, refl, ap}
-use mathlib.Core.Bool.{Bool, true, false, cond}
 use mathlib.Core.List.{List, [], _∷_}
 use native.Mathlib.Omega.{arith}
 use lib.ListN.{length, take, drop, length-drop}
+use Rattle.logic.specs.Cases.{cases}
 use Rattle.container.specs.Text.{closes, lineBytes, lineAt}
 
 pub take-line : (s : List ℕ) → take (length (lineBytes s)) s ≡ lineBytes s
 unfolding lineBytes
 take-line [] = refl
-take-line (b ∷ bs) = go (closes b) (take-line bs)
-  where
-    go : (z : Bool) → take (length (lineBytes bs)) bs ≡ lineBytes bs → take (length (cond z [] (b ∷ lineBytes bs))) (b ∷ bs) ≡ cond z [] (b ∷ lineBytes bs)
-    go true e = refl
-    go false e = ap (λ (l : List ℕ). b ∷ l) e
+take-line (b ∷ bs) = cases (closes b) (λ e. rw e) (λ e. rw e (ap (λ (l : List ℕ). b ∷ l) (take-line bs)))
 
 pub length-line : (s : List ℕ) → length (lineBytes s) ≤ length s
 unfolding lineBytes
 length-line [] = omega arith
-length-line (b ∷ bs) = go (closes b) (length-line bs)
-  where
-    go : (z : Bool) → length (lineBytes bs) ≤ length bs → length (cond z [] (b ∷ lineBytes bs)) ≤ length (b ∷ bs)
-    go true e = omega arith
-    go false e = omega arith
+length-line (b ∷ bs) = let rest = length-line bs in cases (closes b) (λ e. rw e (omega arith)) (λ e. rw e (omega arith))
 
 pub line-within : (f : List ℕ) (from bound : ℕ) → from ≤ bound → length f ≤ bound → from + length (lineAt f from) ≤ bound
 line-within f from bound h k = omega (arith, length-line (drop from f), length-drop from f)

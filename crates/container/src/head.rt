@@ -1,7 +1,9 @@
 // The numbers at the front of the file, and the tests of them: 21 to 24.
 ghost use mathlib.Core.Path.{_≡_};
 ghost use Rattle.refusals.specs.Tests.{firstOf};
-ghost use Rattle.container.specs.Head.{headOf, badLength, voicesEnd, headTests};
+ghost use Rattle.container.specs.Head.{headOf, badLength, voicesEnd, voicesOf, headTests};
+use crate::Voices;
+use fields::Span;
 use refusals::Verdict;
 
 // The load address and the three voice lengths; size is the file's length.
@@ -14,7 +16,7 @@ pub struct Head {
 }
 
 // internal: the numbers as they stand in the file.
-pub fn read_head(file: &[u8]) -> Head
+pub fn read_numbers(file: &[u8]) -> Head
     ensures { λ r. ⌜ r ≡ headOf (now (file .entry)) ⌝ }
 {
     let load = fields::le16(file, 0);
@@ -37,8 +39,8 @@ fn is_bad_length(len: u16) -> bool
     (len == 0) | (len % 2 == 1)
 }
 
-// internal: where the voices end and the text begins.
-pub fn voices_end(x: Head) -> usize
+// Where the voices end and the text begins.
+fn voices_end(x: Head) -> usize
     ensures { λ r. ⌜ r ≡ voicesEnd x ⌝ }
 {
     8 + x.len1 as usize + x.len2 as usize + x.len3 as usize
@@ -60,4 +62,26 @@ pub fn test_head(x: Head) -> Verdict
         .test((65536 < size) | (room < size), refusals::MUS_PAST_MEMORY)
         .test(bad1 | bad2 | bad3, refusals::VOICE_LENGTH)
         .test(size < end, refusals::VOICES_PAST_FILE)
+}
+
+// internal: the voices one after the other from byte 8 on.
+pub fn voices_of(x: Head) -> Voices
+    ensures { λ r. ⌜ r ≡ voicesOf x ⌝ }
+{
+    let len1 = x.len1 as usize;
+    let len2 = x.len2 as usize;
+    let len3 = x.len3 as usize;
+    Voices {
+        load: x.load,
+        voice1: Span { from: 8, len: len1 },
+        voice2: Span {
+            from: 8 + len1,
+            len: len2,
+        },
+        voice3: Span {
+            from: 8 + len1 + len2,
+            len: len3,
+        },
+        end: 8 + len1 + len2 + len3,
+    }
 }

@@ -1,6 +1,6 @@
 -- A listing by the way that the code goes through it.
 -- part-listable, part-listed   the walk over a voice: what it may count on, and what it leaves
--- voice-refused, lengths-refused, file-answered   a call by its tests and the file
+-- voice-refused, lengths-refused, voice-answered   a call by its tests and the voice
 use Prim.Native.Nat.{ℕ, _-_, min}
 use mathlib.Core.Path.{_≡_}
 use mathlib.Core.Bool.{true, false, _||_}
@@ -14,13 +14,12 @@ use Rattle.refusals.specs.Numbers.Outcome.{accepted, refused}
 use Rattle.bodies.specs.Voice.{pairs}
 use Rattle.bodies.specs.Playing.{played, eventsOf}
 use Rattle.mus.specs.declared.Voice.{Voice}
-use Rattle.mus.specs.declared.Song.{Song}
-use Rattle.mus.specs.Song.{musOutcome}
+use Rattle.mus.specs.Asked.{voiceAsked, bytesOf}
+use Rattle.mus.specs.AskedLaws.{InSong}
 use Rattle.cells.specs.Window.{filled}
 use Rattle.walk.specs.Times.{offsetsOf, jiffiesOf}
 use Rattle.walk.specs.Bounds.{Listable}
-use Rattle.events.specs.Listing.{bytesOf, playedIn, Listing, windowIn, filledBy, listing}
-use Rattle.events.specs.Bounds.{InSong}
+use Rattle.events.specs.Listing.{playedIn, Listing, windowIn, filledBy, listing}
 
 abbrev left : Outcome ℕ → List ℕ → List ℕ → Listing
 left answer os js = record { answer = answer; offsets = os; jiffies = js }
@@ -54,6 +53,6 @@ module _ (f : List ℕ) (voice first : ℕ) (os js : List ℕ) where
     unfolding listing
     lengths-refused n = rw (inside, ne-eqb (length os) (length js) n)
 
-    pub file-answered : length os ≡ length js → (o : Outcome Song) → o ≡ musOutcome f → filledBy f voice first os js o ≡ listing f voice first os js
+    pub voice-answered : length os ≡ length js → (o : Outcome Voice) → o ≡ voiceAsked f voice → filledBy f first os js o ≡ listing f voice first os js
     unfolding listing
-    file-answered e o q = rw (inside, eq-eqb (length os) (length js) e, q)
+    voice-answered e o q = rw (inside, eq-eqb (length os) (length js) e, q)

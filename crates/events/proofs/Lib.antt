@@ -1,2 +1,1 @@
-pub mod Voices
 pub mod Answers

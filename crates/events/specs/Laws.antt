@@ -33,12 +33,14 @@ use Rattle.clock.specs.Laws.{jiffies-rise, same-time}
 use Rattle.bodies.specs.Bodies.{Event}
 use Rattle.mus.specs.declared.Voice.{Voice}
 use Rattle.mus.specs.declared.Song.{Song}
-use Rattle.mus.specs.Song.{musOutcome}
+use Rattle.mus.specs.Song.{next, musOutcome}
+use Rattle.mus.specs.Asked.{songVoice, voiceAsked}
+use Rattle.mus.specs.AskedLaws.{file-next, asked-accepted}
 use Rattle.cells.specs.Laws.{filled-length, filled-at, filled-beyond, filled-split}
 use Rattle.walk.specs.Times.{offsetsOf, meanings, jiffiesOf}
 use Rattle.events.specs.declared.Listed.{Listed}
 use Rattle.events.specs.declared.Listed.the-variants.{Count, Refused}
-use Rattle.events.specs.Listing.{callerTests, voiceOf, playedIn, countOf, windowIn, filledBy, listing, told}
+use Rattle.events.specs.Listing.{callerTests, playedIn, countOf, windowIn, filledBy, listing, told}
 
 -- 'An answer may be an enum. In that case, a definition gives this paper's number and values for each of the enum's cases'
 pub told-once : (a b : Listed) → told a ≡ told b → a ≡ b
@@ -52,7 +54,7 @@ pub record Answered (f : List ℕ) (voice first : ℕ) (os js : List ℕ) : Type
   pub file : musOutcome f ≡ accepted song
   pub number : ltb voice 1 || ltb 3 voice ≡ false
   pub lengths : length os ≡ length js
-  pub window : listing f voice first os js ≡ windowIn f (voiceOf song voice) first os js
+  pub window : listing f voice first os js ≡ windowIn f (songVoice song voice) first os js
 
 module _ (f : List ℕ) (voice first : ℕ) (os js : List ℕ) where
   -- '41 voice not 1 to 3', before all else
@@ -66,34 +68,35 @@ module _ (f : List ℕ) (voice first : ℕ) (os js : List ℕ) where
   lengths-next e n = rw (e, ne-eqb (length os) (length js) n)
 
   -- '40, 41 and 42 are tested before the file, in that order'
-  pub file-last : ltb voice 1 || ltb 3 voice ≡ false → length os ≡ length js → listing f voice first os js ≡ filledBy f voice first os js (musOutcome f)
+  pub file-last : ltb voice 1 || ltb 3 voice ≡ false → length os ≡ length js → listing f voice first os js ≡ filledBy f first os js (next (musOutcome f) (λ s. accepted (songVoice s voice)))
   unfolding listing
-  file-last e same = rw (e, eq-eqb (length os) (length js) same)
+  file-last e same = rw (e, eq-eqb (length os) (length js) same, file-next f voice e)
 
   -- 'A refusal .. changes no lent memory'
   pub refused-unchanged : {number place : ℕ} → listing f voice first os js .answer ≡ refused number place → (listing f voice first os js .offsets ≡ os) × (listing f voice first os js .jiffies ≡ js)
   unfolding listing
-  refused-unchanged {number} {place} e = go (guarded (firstOf (callerTests voice (length os) (length js))) (musOutcome f)) e
+  refused-unchanged {number} {place} e = go (guarded (firstOf (callerTests voice (length os) (length js))) (voiceAsked f voice)) e
     where
-      go : (o : Outcome Song) → filledBy f voice first os js o .answer ≡ refused number place → (filledBy f voice first os js o .offsets ≡ os) × (filledBy f voice first os js o .jiffies ≡ js)
-      go (accepted s) q = absurd (two-ways (sym q))
+      go : (o : Outcome Voice) → filledBy f first os js o .answer ≡ refused number place → (filledBy f first os js o .offsets ≡ os) × (filledBy f first os js o .jiffies ≡ js)
+      go (accepted v) q = absurd (two-ways (sym q))
       go (refused n p) q = (refl, refl)
 
   -- 'it returns how many'
   pub accepted-window : {n : ℕ} → listing f voice first os js .answer ≡ accepted n → Answered f voice first os js
   unfolding listing
-  accepted-window {n} e = go (guarded (firstOf (callerTests voice (length os) (length js))) (musOutcome f)) refl e
+  accepted-window {n} e = go (guarded (firstOf (callerTests voice (length os) (length js))) (voiceAsked f voice)) refl e
     where
-      go : (o : Outcome Song) → guarded (firstOf (callerTests voice (length os) (length js))) (musOutcome f) ≡ o → filledBy f voice first os js o .answer ≡ accepted n → Answered f voice first os js
-      go (accepted s) q h =
-          let passed = guarded-passed (firstOf (callerTests voice (length os) (length js))) (musOutcome f) s q in
+      go : (o : Outcome Voice) → guarded (firstOf (callerTests voice (length os) (length js))) (voiceAsked f voice) ≡ o → filledBy f first os js o .answer ≡ accepted n → Answered f voice first os js
+      go (accepted v) q h =
+          let passed = guarded-passed (firstOf (callerTests voice (length os) (length js))) (voiceAsked f voice) v q in
           let none = passed-none (callerTests voice (length os) (length js)) (passed .0) in
+          let asked = asked-accepted f voice v (passed .1) in
           record {
-            song = s;
-            file = passed .1;
-            number = none .0;
+            song = asked .song;
+            file = asked .file;
+            number = asked .number;
             lengths = eqb-true (length os) (length js) (not-false (eqb (length os) (length js)) (none .1 .0));
-            window = rw q;
+            window = rw (q, asked .voice);
           }
       go (refused m p) q h = absurd (two-ways h)
 

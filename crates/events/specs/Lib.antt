@@ -1,4 +1,3 @@
 pub mod Listing
-pub mod Bounds
 pub mod Laws
 pub mod Example

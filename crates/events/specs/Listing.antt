@@ -2,20 +2,18 @@
 -- are full or the voice has ended; it returns how many, 0 past the end, and what lies beyond keeps its old content.' Demand 3 is the equation between a call and
 -- listing, which is made of the played-out voice (crates/bodies/specs/Playing.antt), its exact times (crates/clock/specs/Times.antt) and the lists as they were.
 -- callerTests    'voice not 1 to 3', 'two lists of unequal length': '40, 41 and 42 are tested before the file, in that order'
--- voiceOf        a voice of a song by its number
--- bytesOf        its bytes in the file
 -- playedIn       the played-out voice
 -- countOf        'How many is the lesser of the lists' length and the number of events from the first one asked for to the end'
 -- Listing        what a call leaves: its answer, and both lists
 -- windowIn       what it leaves for a voice
--- filledBy       what it leaves, by the song or the refusal: 'A refusal .. changes no lent memory'
--- listing        what it leaves for a file
+-- filledBy       what it leaves, by the voice or the refusal: 'A refusal .. changes no lent memory'
+-- listing        what it leaves for a file: 41, then 42, then the file's own refusal, then the voice (crates/mus/specs/Asked.antt)
 -- told           what an answer says
 use Prim.Native.Nat.{ℕ, _-_, min}
-use mathlib.Core.Bool.{not, _||_, cond}
+use mathlib.Core.Bool.{not, _||_}
 use mathlib.Core.List.{List, [], _∷_}
 use lib.Dec.{eqb, ltb}
-use lib.ListN.{length, take, drop}
+use lib.ListN.{length}
 use Rattle.refusals.specs.Numbers.{Outcome, voiceNumber, listLengths}
 use Rattle.refusals.specs.Numbers.Outcome.{accepted, refused}
 use Rattle.refusals.specs.Tests.{Test, test, firstOf, guarded}
@@ -23,8 +21,7 @@ use Rattle.bodies.specs.Bodies.{Event}
 use Rattle.bodies.specs.Voice.{pairs}
 use Rattle.bodies.specs.Playing.{played}
 use Rattle.mus.specs.declared.Voice.{Voice}
-use Rattle.mus.specs.declared.Song.{Song}
-use Rattle.mus.specs.Song.{musOutcome}
+use Rattle.mus.specs.Asked.{voiceAsked, bytesOf}
 use Rattle.cells.specs.Window.{filled}
 use Rattle.walk.specs.Times.{offsetsOf, jiffiesOf}
 use Rattle.events.specs.declared.Listed.{Listed}
@@ -32,12 +29,6 @@ use Rattle.events.specs.declared.Listed.the-variants.{Count, Refused}
 
 abbrev pub callerTests : ℕ → ℕ → ℕ → List Test
 callerTests voice n m = test voiceNumber (ltb voice 1 || ltb 3 voice) ∷ test listLengths (not (eqb n m)) ∷ []
-
-abbrev pub voiceOf : Song → ℕ → Voice
-voiceOf s n = cond (eqb n 1) (s .voice1) (cond (eqb n 2) (s .voice2) (s .voice3))
-
-abbrev pub bytesOf : List ℕ → Voice → List ℕ
-bytesOf f v = take (v .length) (drop (v .offset) f)
 
 unfoldable pub playedIn : List ℕ → Voice → List Event
 playedIn f v = played (pairs (bytesOf f v))
@@ -58,12 +49,12 @@ windowIn f v first os js =
       jiffies = filled first (countOf (length os) first (playedIn f v)) (jiffiesOf (playedIn f v)) js;
     }
 
-abbrev pub filledBy : List ℕ → ℕ → ℕ → List ℕ → List ℕ → Outcome Song → Listing
-filledBy f voice first os js (accepted s) = windowIn f (voiceOf s voice) first os js
-filledBy f voice first os js (refused number place) = record { answer = refused number place; offsets = os; jiffies = js }
+abbrev pub filledBy : List ℕ → ℕ → List ℕ → List ℕ → Outcome Voice → Listing
+filledBy f first os js (accepted v) = windowIn f v first os js
+filledBy f first os js (refused number place) = record { answer = refused number place; offsets = os; jiffies = js }
 
 unfoldable pub listing : List ℕ → ℕ → ℕ → List ℕ → List ℕ → Listing
-listing f voice first os js = filledBy f voice first os js (guarded (firstOf (callerTests voice (length os) (length js))) (musOutcome f))
+listing f voice first os js = filledBy f first os js (guarded (firstOf (callerTests voice (length os) (length js))) (voiceAsked f voice))
 
 abbrev pub told : Listed → Outcome ℕ
 told (Count n) = accepted n

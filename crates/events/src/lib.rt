@@ -2,11 +2,10 @@
 ghost use mathlib.Core.Path.{_≡_};
 ghost use Prim.Native.Nat.{_-_, min};
 ghost use lib.ListN.{length};
-ghost use Rattle.events.specs.Listing.{voiceOf, windowIn, listing, told};
-ghost use Rattle.events.specs.Bounds.{InSong};
-use mus::Reading;
-use mus::Song;
+ghost use Rattle.mus.specs.AskedLaws.{InSong};
+ghost use Rattle.events.specs.Listing.{windowIn, listing, told};
 use mus::Voice;
+use mus::VoiceReading;
 use refusals::Refusal;
 
 // The answer to a listing: how many cells of each list are filled, or why none is.
@@ -29,18 +28,6 @@ fn count_of(events: u32, first: u64, cells: usize) -> usize
     } else {
         cells
     }
-}
-
-fn voice_of(song: Song, voice: u32) -> Voice
-    ensures { λ r. ⌜ r ≡ voiceOf song voice ⌝ }
-{
-    if voice == 1 {
-        return song.voice1;
-    }
-    if voice == 2 {
-        return song.voice2;
-    }
-    song.voice3
 }
 
 // Fills the lists, which are of one length, from a voice of an accepted file.
@@ -75,12 +62,8 @@ pub fn list(file: &[u8], voice: u32, first: u64, offsets: &mut [u32], jiffies: &
     if offsets.len() != jiffies.len() {
         return Listed::Refused(Refusal::unplaced(refusals::LIST_LENGTHS));
     }
-    let answer = mus::accept(file);
-    match answer {
-        Reading::Refused(x) => Listed::Refused(x),
-        Reading::Accepted(song) => {
-            let v = voice_of(song, voice);
-            list_part(file, v, first, offsets, jiffies)
-        }
+    match mus::read_voice(file, voice) {
+        VoiceReading::Refused(x) => Listed::Refused(x),
+        VoiceReading::Accepted(v) => list_part(file, v, first, offsets, jiffies),
     }
 }

@@ -6,11 +6,15 @@
 -- first-refused, second-refused, third-refused, all-sound   a file by its voices
 -- in-file            what a right container says of the places of its voices
 -- container-refused, container-fits   a file by its container
+-- file-answered      a voice by its number, by the file
 use Prim.Native.Nat.{ℕ, _+_, _*_, _≤_}
 use mathlib.Core.Path.{_≡_, subst}
+use mathlib.Core.Bool.{false, _||_}
 use mathlib.Core.List.{List}
 use native.Mathlib.Omega.{arith}
+use lib.Dec.{ltb}
 use lib.ListN.{length, take, drop, length-take, length-drop}
+use Rattle.refusals.specs.Numbers.{Outcome}
 use Rattle.refusals.specs.Numbers.Outcome.{accepted, refused}
 use Rattle.container.specs.declared.Layout.{Layout}
 use Rattle.container.specs.Layout.{containerOutcome}
@@ -26,8 +30,11 @@ use Rattle.structure.proofs.Sound.{sound}
 use Rattle.counts.specs.Limits.{countOutcome}
 use Rattle.mus.specs.declared.Voice.{Voice}
 use Rattle.mus.specs.Voices.{limited, voiceOutcome}
-use Rattle.mus.specs.Song.{voiceIn, songWith, songIn, musOutcome}
+use Rattle.mus.specs.declared.Song.{Song}
+use Rattle.mus.specs.Song.{next, voiceIn, songWith, songIn, musOutcome}
 use Rattle.mus.specs.Bounds.{InFile}
+use Rattle.mus.specs.Asked.{songVoice, voiceAsked}
+use Rattle.mus.specs.AskedLaws.{file-next}
 
 module _ (offset : ℕ) (bs : List ℕ) where
   pub pairs-refused : (n i : ℕ) → pairsFinding (pairs bs) ≡ At n i → voiceOutcome offset bs ≡ refused n (offset + 2 * i)
@@ -86,3 +93,6 @@ module _ (f : List ℕ) (l : Layout) where
 pub container-refused : (f : List ℕ) (n p : ℕ) → containerOutcome f ≡ refused n p → musOutcome f ≡ refused n p
 unfolding musOutcome
 container-refused f n p e = rw e
+
+pub file-answered : (f : List ℕ) (n : ℕ) → ltb n 1 || ltb 3 n ≡ false → (o : Outcome Song) → o ≡ musOutcome f → next o (λ s. accepted (songVoice s n)) ≡ voiceAsked f n
+file-answered f n inside o e = rw (file-next f n inside, e)

@@ -4,6 +4,7 @@
 -- passes-voice, voice-passes      a voice is accepted exactly when none applies to it
 -- Clear                           none of 21 to 33 applies to a file and its voices
 -- songOf                          what is reported of a file
+-- Given, next-given               where what comes after a part is accepted, so is the part
 -- clear-accepted, accepted-clear  a file is accepted exactly when none applies
 -- told-once                       no two answers are told alike
 -- long-refused, cut-off           a file of more than 65,536 bytes is 22, and so is what is left of it that is as long
@@ -106,13 +107,12 @@ clear-accepted f c =
     let l = layoutOf f in
     rw (none-layout f (c .container), passes-voice (l .voice1 .from) (partOf f (l .voice1)) (c .voice1), passes-voice (l .voice2 .from) (partOf f (l .voice2)) (c .voice2), passes-voice (l .voice3 .from) (partOf f (l .voice3)) (c .voice3))
 
--- where what comes after a part is accepted, so is the part
-record Given {A B : Type 0} (o : Outcome A) (g : A → Outcome B) (b : B) : Type 0 where
-  value : A
-  was : o ≡ accepted value
-  gives : g value ≡ accepted b
+pub record Given {A B : Type 0} (o : Outcome A) (g : A → Outcome B) (b : B) : Type 0 where
+  pub value : A
+  pub was : o ≡ accepted value
+  pub gives : g value ≡ accepted b
 
-next-given : {A B : Type 0} (o : Outcome A) (g : A → Outcome B) (b : B) → next o g ≡ accepted b → Given o g b
+pub next-given : {A B : Type 0} (o : Outcome A) (g : A → Outcome B) (b : B) → next o g ≡ accepted b → Given o g b
 next-given (accepted x) g b e = record { value = x; was = refl; gives = e }
 next-given (refused n p) g b e = absurd (two-ways e)
 

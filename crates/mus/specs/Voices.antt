@@ -17,8 +17,8 @@ use Rattle.counts.specs.declared.Counted.{Counted}
 use Rattle.counts.specs.declared.Counted.the-variants.{Within, Off}
 use Rattle.counts.specs.Limits.{countOutcome}
 use Rattle.mus.specs.declared.Voice.{Voice}
-use Rattle.mus.specs.declared.voices.Heard.{Heard}
-use Rattle.mus.specs.declared.voices.Heard.the-variants.{Sound, Refused}
+use Rattle.mus.specs.declared.VoiceReading.{VoiceReading}
+use Rattle.mus.specs.declared.VoiceReading.the-variants.{Accepted, Refused}
 
 abbrev pub orFound : {A : Type 0} → ℕ → Finding → Outcome A → Outcome A
 orFound offset Clear later = later
@@ -32,6 +32,6 @@ unfoldable pub voiceOutcome : ℕ → List ℕ → Outcome Voice
 voiceOutcome offset bs =
     orFound offset (pairsFinding (pairs bs)) (orFound offset (structureFinding (pairs bs)) (limited offset (length bs) (countOutcome (pairs bs))))
 
-abbrev pub toldVoice : Heard → Outcome Voice
-toldVoice (Sound v) = accepted v
+abbrev pub toldVoice : VoiceReading → Outcome Voice
+toldVoice (Accepted v) = accepted v
 toldVoice (Refused x) = refused (x .number) (x .place)

@@ -9,46 +9,42 @@ ghost use Rattle.counts.specs.Limits.{countOutcome};
 ghost use Rattle.mus.specs.Voices.{limited, voiceOutcome, toldVoice};
 ghost use Rattle.mus.specs.Song.{voiceIn, songWith, songIn, told};
 ghost use Rattle.mus.specs.Bounds.{InFile};
+ghost use Rattle.mus.specs.Asked.{songVoice};
 ghost use Rattle.mus.specs.Text.{lineSpan};
 use crate::Reading;
 use crate::Song;
 use crate::Voice;
+use crate::VoiceReading;
 use container::Layout;
 use counts::Counted;
 use fields::Span;
 use refusals::Refusal;
 use structure::Finding;
 
-// The answer to a voice.
-pub enum Heard {
-    Sound(Voice),
-    Refused(Refusal),
-}
-
 // The refusal of a pair by its number in the voice, with its file offset.
-fn refused_at(number: u32, offset: usize, i: usize) -> Heard
+fn refused_at(number: u32, offset: usize, i: usize) -> VoiceReading
     requires { ⌜ (offset ≤ 65536) × (i ≤ 65536) ⌝ }
     ensures { λ r. ⌜ toldVoice r ≡ refused number (offset + 2 * i) ⌝ }
 {
-    Heard::Refused(Refusal {
+    VoiceReading::Refused(Refusal {
         number,
         place: offset + 2 * i,
     })
 }
 
 // 32 and 33 with the place of the voice's first pair, of a voice that 27 to 31 do not refuse; else the voice with its counts.
-fn counted(voice: &[u8], offset: usize) -> Heard
+fn counted(voice: &[u8], offset: usize) -> VoiceReading
     requires { ⌜ (length (now voice) ≤ 65536) × order.Sound (pairs (now voice)) ⌝ }
     ensures { λ r. ⌜ toldVoice r ≡ limited offset (length (now (voice .entry))) (countOutcome (pairs (now (voice .entry)))) ⌝ }
 {
     match counts::count_voice(voice) {
-        Counted::Within(events, walked) => Heard::Sound(Voice {
+        Counted::Within(events, walked) => VoiceReading::Accepted(Voice {
             offset,
             length: voice.len(),
             events,
             walked,
         }),
-        Counted::Off(number) => Heard::Refused(Refusal {
+        Counted::Off(number) => VoiceReading::Refused(Refusal {
             number,
             place: offset,
         }),
@@ -56,7 +52,7 @@ fn counted(voice: &[u8], offset: usize) -> Heard
 }
 
 // A voice by its own bytes and the file offset of its first pair: 27 to 29, then 30 and 31, then 32, then 33.
-fn accept_voice(voice: &[u8], offset: usize) -> Heard
+fn accept_voice(voice: &[u8], offset: usize) -> VoiceReading
     requires { ⌜ (length (now voice) ≤ 65536) × (offset ≤ 65536) ⌝ }
     ensures { λ r. ⌜ toldVoice r ≡ voiceOutcome offset (now (voice .entry)) ⌝ }
 {
@@ -69,7 +65,7 @@ fn accept_voice(voice: &[u8], offset: usize) -> Heard
     }
 }
 
-fn accept_span(file: &[u8], span: Span) -> Heard
+fn accept_span(file: &[u8], span: Span) -> VoiceReading
     requires { ⌜ (length (now file) ≤ 65536) × (span .from ≤ 65536) ⌝ }
     ensures { λ r. ⌜ toldVoice r ≡ voiceIn (now (file .entry)) span ⌝ }
 {
@@ -84,12 +80,12 @@ pub fn accept_voices(file: &[u8], l: Layout) -> Reading
     ensures { λ r. ⌜ told r ≡ songIn (now (file .entry)) l ⌝ }
 {
     match accept_span(file, l.voice1) {
-        Heard::Refused(x) => Reading::Refused(x),
-        Heard::Sound(voice1) => match accept_span(file, l.voice2) {
-            Heard::Refused(x) => Reading::Refused(x),
-            Heard::Sound(voice2) => match accept_span(file, l.voice3) {
-                Heard::Refused(x) => Reading::Refused(x),
-                Heard::Sound(voice3) => Reading::Accepted(song_of(l, voice1, voice2, voice3)),
+        VoiceReading::Refused(x) => Reading::Refused(x),
+        VoiceReading::Accepted(v1) => match accept_span(file, l.voice2) {
+            VoiceReading::Refused(x) => Reading::Refused(x),
+            VoiceReading::Accepted(v2) => match accept_span(file, l.voice3) {
+                VoiceReading::Refused(x) => Reading::Refused(x),
+                VoiceReading::Accepted(v3) => Reading::Accepted(song_of(l, v1, v2, v3)),
             },
         },
     }
@@ -114,6 +110,19 @@ fn song_of(l: Layout, voice1: Voice, voice2: Voice, voice3: Voice) -> Song
         line4,
         line5,
     }
+}
+
+// internal: a voice by its number from 1 to 3.
+pub fn voice_of(song: Song, n: u32) -> Voice
+    ensures { λ r. ⌜ r ≡ songVoice song n ⌝ }
+{
+    if n == 1 {
+        return song.voice1;
+    }
+    if n == 2 {
+        return song.voice2;
+    }
+    song.voice3
 }
 
 // internal: where a line lies, by its number from 1 to 5.

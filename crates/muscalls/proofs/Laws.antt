@@ -13,9 +13,10 @@ use Rattle.bodies.specs.Voice.{pairs}
 use Rattle.bodies.specs.Playing.{eventsOf, walkedOf}
 use Rattle.bodies.proofs.Related.{events-walked}
 use Rattle.mus.specs.Song.{musOutcome}
-use Rattle.events.specs.Listing.{voiceOf, bytesOf, playedIn, countOf, Listing, listing}
+use Rattle.mus.specs.Asked.{songVoice, bytesOf}
+use Rattle.mus.specs.AskedLaws.{in-song}
+use Rattle.events.specs.Listing.{playedIn, countOf, Listing, listing}
 use Rattle.events.specs.Laws.{accepted-window}
-use Rattle.events.proofs.Voices.{in-song}
 use Rattle.answers.specs.Told.{Told, low-told}
 use Rattle.muscalls.specs.Lists.{songNumbers}
 use Rattle.muscalls.proofs.Places.{mus-low, list-low}
@@ -35,7 +36,7 @@ module _ (f : List ℕ) where
       few : (count : ℕ) → listing f voice first os js .answer ≡ accepted count → count < 0x100000000
       few count e =
           let w = accepted-window f voice first os js e in
-          let v = voiceOf (w .song) voice in
+          let v = songVoice (w .song) voice in
           let i = in-song f (w .song) voice (w .file) in
           let walked = ltb-false 1048576 (walkedOf (pairs (bytesOf f v))) (i .passes .limits .1 .0) in
           let is : countOf (length os) first (playedIn f v) ≡ count = same (sym (ap (λ (l : Listing). l .answer) (w .window)) ∙ e) in

@@ -26,9 +26,10 @@ use Rattle.structure.specs.Tests.{start}
 use Rattle.structure.specs.Laws.{pairs-within, structure-within}
 use Rattle.counts.specs.declared.Counted.the-variants.{Within}
 use Rattle.counts.specs.Limits.{limitTests, unlessOff, countOutcome}
-use Rattle.mus.specs.declared.Song.{Song}
+use Rattle.mus.specs.declared.Voice.{Voice}
 use Rattle.mus.specs.Voices.{orFound, limited, voiceOutcome}
 use Rattle.mus.specs.Song.{next, voiceIn, songWith, songIn, musOutcome}
+use Rattle.mus.specs.Asked.{numberTests, songVoice, voiceAsked}
 use Rattle.mus.specs.Bounds.{InFile}
 use Rattle.mus.proofs.Outcomes.{in-file}
 use Rattle.events.specs.Listing.{callerTests, filledBy, listing}
@@ -73,11 +74,16 @@ mus-low f = next-low (containerOutcome f) (λ l. songIn f l) (tests-low (contain
         (λ v1 e1. next-low (voiceIn f (l .voice2)) (λ v2. next (voiceIn f (l .voice3)) (λ v3. accepted (songWith l v1 v2 v3))) (voice-low f (l .voice2) (i .short) (i .voice2))
         (λ v2 e2. next-low (voiceIn f (l .voice3)) (λ v3. accepted (songWith l v1 v2 v3)) (voice-low f (l .voice3) (i .short) (i .voice3)) (λ v3 e3. tt)))
 
+asked-low : (f : List ℕ) (voice : ℕ) → Low (voiceAsked f voice)
+unfolding voiceAsked
+asked-low f voice =
+    tests-low (numberTests voice) (next (musOutcome f) (λ s. accepted (songVoice s voice))) (next-low (musOutcome f) (λ s. accepted (songVoice s voice)) (mus-low f) (λ s e. tt))
+
 pub list-low : (f : List ℕ) (voice first : ℕ) (os js : List ℕ) → Low (listing f voice first os js .answer)
 unfolding listing
 list-low f voice first os js =
-    go (guarded (firstOf (callerTests voice (length os) (length js))) (musOutcome f)) (tests-low (callerTests voice (length os) (length js)) (musOutcome f) (mus-low f))
+    go (guarded (firstOf (callerTests voice (length os) (length js))) (voiceAsked f voice)) (tests-low (callerTests voice (length os) (length js)) (voiceAsked f voice) (asked-low f voice))
   where
-    go : (o : Outcome Song) → Low o → Low (filledBy f voice first os js o .answer)
-    go (accepted s) l = tt
+    go : (o : Outcome Voice) → Low o → Low (filledBy f first os js o .answer)
+    go (accepted v) l = tt
     go (refused n p) l = l

@@ -1,10 +1,9 @@
--- `events::list` meets its contract: the caller's tests, then the file's, then the window.
+-- `events::list` meets its contract: the caller's tests, then the voice, then the window.
 use borrow.Author.Needs.{needs}
-use mathlib.Core.Path.{sym, ap, _∙_, subst}
-use Rattle.mus.specs.Song as mus
-use Rattle.events.specs.Bounds.{InSong}
-use Rattle.events.proofs.Voices.{in-song}
-use Rattle.events.proofs.Answers.{voice-refused, lengths-refused, file-answered}
+use mathlib.Core.Path.{sym, ap, _∙_}
+use Rattle.mus.specs.Voices.{toldVoice}
+use Rattle.mus.specs.AskedLaws.{asked-in-song}
+use Rattle.events.proofs.Answers.{voice-refused, lengths-refused, voice-answered}
 use Rattle.events.proofs.list.Statement.{statement}
 use Rattle.events.proofs.list.Tie as tie
 
@@ -15,19 +14,19 @@ returns-2 : tie.Need-returns-2
 returns-2 c = rw (c .unplaced2 .ensures) (lengths-refused _ _ _ _ _ (c .before .before .if1 .left) (c .before .if2 .taken))
 
 list-part-requires : tie.Need-list-part-requires
-list-part-requires c κs = (
-  subst (InSong _) (sym (c .before .before .voice-of .ensures)) (in-song _ _ (c .before .before .before .before .before .before .before .before .before .before .before .before .args .voice) (sym (c .before .before .before .before .before .before .accept .ensures) ∙ ap mus.told (c .before .before .before .before .answer2 .given .1))),
-  c .before .before .before .before .before .before .before .if2 .left,
-)
+list-part-requires c κs =
+    let asked = sym (c .before .before .before .before .before .read-voice .ensures) ∙ ap toldVoice (c .before .before .before .v .given .1) in
+    (asked-in-song _ _ _ asked, c .before .before .before .before .before .before .if2 .left)
 
 returns-3 : tie.Need-returns-3
 returns-3 c =
-    file-answered _ _ _ _ _ (c .before .before .before .before .before .if1 .left) (c .before .before .before .before .if2 .left) _ (ap mus.told (sym (c .before .answer .given .1)) ∙ c .before .before .before .accept .ensures)
+    voice-answered _ _ _ _ _ (c .before .before .before .before .before .if1 .left) (c .before .before .before .before .if2 .left) _ (ap toldVoice (sym (c .before .x .given .1)) ∙ c .before .before .before .read-voice .ensures)
 
 returns-4 : tie.Need-returns-4
 returns-4 c =
-    c .before .before .before .before .list-part .ensures ∙ rw (c .before .before .before .before .before .before .before .voice-of .ensures)
-    (file-answered _ _ _ _ _ (c .before .before .before .before .before .before .before .before .before .before .before .before .before .if1 .left) (c .before .before .before .before .before .before .before .before .before .before .before .before .if2 .left) _ (ap mus.told (sym (c .before .before .before .before .before .before .before .before .before .answer2 .given .1)) ∙ c .before .before .before .before .before .before .before .before .before .before .before .accept .ensures))
+    let m = c .before .before .before .before .before .before .before .before .before .before in
+    c .before .before .before .before .list-part .ensures
+    ∙ voice-answered _ _ _ _ _ (m .before .before .if1 .left) (m .before .if2 .left) _ (ap toldVoice (sym (c .before .before .before .before .before .before .before .before .v .given .1)) ∙ m .read-voice .ensures)
 
 pub list-spec : {M : Type 1} → statement M
 list-spec =
@@ -40,7 +39,6 @@ list-spec =
     (λ c κs. search needs)
     (λ c. search needs)
     (λ c. search needs)
-    (λ c κs. search needs)
     list-part-requires
     returns-3
     (λ c. search needs)

@@ -1,8 +1,8 @@
--- `read_head` meets its contract: each number is what its read ensures. Assumes nothing.
+-- `read_numbers` meets its contract: each number is what its read ensures. Assumes nothing.
 use borrow.Author.Needs.{needs}
 use Rattle.container.specs.Head.{headOf}
-use Rattle.container.proofs.head.read_head.Statement.{statement}
-use Rattle.container.proofs.head.read_head.Tie as tie
+use Rattle.container.proofs.head.read_numbers.Statement.{statement}
+use Rattle.container.proofs.head.read_numbers.Tie as tie
 
 returns : tie.Need-returns
 unfolding headOf
@@ -14,6 +14,6 @@ returns c =
       c .before .before .before .le16 .ensures,
     )
 
-pub read-head-spec : {M : Type 1} → statement M
-read-head-spec =
+pub read-numbers-spec : {M : Type 1} → statement M
+read-numbers-spec =
     tie.close (tie.spec (λ c κs. search needs) (λ c κs. search needs) (λ c κs. search needs) (λ c κs. search needs) returns)

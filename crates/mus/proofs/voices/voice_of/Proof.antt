@@ -1,7 +1,7 @@
--- `events::voice_of` meets its contract.
+-- `mus::voices::voice_of` meets its contract.
 use borrow.Author.Tests.{ne-eqb}
-use Rattle.events.proofs.voice_of.Statement.{statement}
-use Rattle.events.proofs.voice_of.Tie as tie
+use Rattle.mus.proofs.voices.voice_of.Statement.{statement}
+use Rattle.mus.proofs.voices.voice_of.Tie as tie
 
 returns : tie.Need-returns
 returns c = rw (c .before .if1 .taken)

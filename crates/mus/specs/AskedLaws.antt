@@ -1,0 +1,101 @@
+-- Laws of a voice that a caller names, and what acceptance has shown of it.
+-- told-voice-once          no two answers are told alike
+-- number-first, file-next  41 by the number, then what the file comes to
+-- Asked, asked-accepted    any other answer is the voice of that number, of an accepted file
+-- InSong                   a voice of an accepted file, as acceptance has reported it
+-- in-song, asked-in-song   so is each voice of a song, and so is the voice that is asked for
+use Prim.Native.Nat.{ℕ, zero, suc, _≤_}
+use mathlib.Core.Path.{_≡_, refl, sym, ap, subst}
+use mathlib.Core.Bool.{Bool, true, false, _||_, cond}
+use mathlib.Core.List.{List, [], _∷_}
+use native.Mathlib.Omega.{arith}
+use lib.Dec.{eqb, ltb}
+use lib.ListN.{length, take, drop}
+use Rattle.fields.specs.declared.Span.{Span}
+use Rattle.fields.specs.Parts.{partOf}
+use Rattle.refusals.specs.Numbers.Outcome.{accepted, refused}
+use Rattle.refusals.specs.Tests.{firstOf}
+use Rattle.refusals.specs.Laws.{passed-none, two-ways, guarded-passed, refused-once}
+use Rattle.container.specs.Layout.{layoutOf}
+use Rattle.container.specs.Laws.{short-file, voice1-fits, voice2-fits, voice3-fits}
+use Rattle.bodies.specs.Voice.{pairs}
+use Rattle.bodies.specs.Playing.{eventsOf, walkedOf}
+use Rattle.mus.specs.declared.Voice.{Voice}
+use Rattle.mus.specs.declared.Song.{Song}
+use Rattle.mus.specs.declared.VoiceReading.{VoiceReading}
+use Rattle.mus.specs.declared.VoiceReading.the-variants.{Accepted, Refused}
+use Rattle.mus.specs.Voices.{toldVoice}
+use Rattle.mus.specs.Song.{next, musOutcome}
+use Rattle.mus.specs.Asked.{numberTests, songVoice, voiceAsked, bytesOf}
+use Rattle.mus.specs.Laws.{Passes, voiceOf, songOf, accepted-clear, next-given}
+
+pub told-voice-once : (a b : VoiceReading) → toldVoice a ≡ toldVoice b → a ≡ b
+told-voice-once (Accepted v) (Accepted w) e = let same : v ≡ w = cc in rw same
+told-voice-once (Accepted v) (Refused y) e = absurd (two-ways (sym e))
+told-voice-once (Refused x) (Accepted w) e = absurd (two-ways e)
+told-voice-once (Refused x) (Refused y) e = ap Refused (refused-once {X = Voice} x y e)
+
+pub record Asked (f : List ℕ) (n : ℕ) (v : Voice) : Type 0 where
+  pub number : ltb n 1 || ltb 3 n ≡ false
+  pub song : Song
+  pub file : musOutcome f ≡ accepted song
+  pub voice : songVoice song n ≡ v
+
+module _ (f : List ℕ) (n : ℕ) where
+  -- '41 voice not 1 to 3', before the file
+  pub number-first : ltb n 1 || ltb 3 n ≡ true → voiceAsked f n ≡ refused 41 0
+  unfolding voiceAsked
+  number-first e = rw e
+
+  pub file-next : ltb n 1 || ltb 3 n ≡ false → voiceAsked f n ≡ next (musOutcome f) (λ s. accepted (songVoice s n))
+  unfolding voiceAsked
+  file-next e = rw e
+
+  pub asked-accepted : (v : Voice) → voiceAsked f n ≡ accepted v → Asked f n v
+  unfolding voiceAsked
+  asked-accepted v e =
+      let passed = guarded-passed (firstOf (numberTests n)) (next (musOutcome f) (λ s. accepted (songVoice s n))) v e in
+      let given = next-given (musOutcome f) (λ s. accepted (songVoice s n)) v (passed .1) in
+      record { number = passed-none (numberTests n) (passed .0) .0; song = given .value; file = given .was; voice = same (given .gives) }
+    where
+      same : {w : Voice} → accepted w ≡ accepted v → w ≡ v
+      same q = cc
+
+pub record InSong (f : List ℕ) (v : Voice) : Type 0 where
+  pub passes : Passes (pairs (bytesOf f v))
+  pub short : length f ≤ 65536
+  pub low : v .offset ≤ 65536
+  pub events : v .events ≡ eventsOf (pairs (bytesOf f v))
+  pub walked : v .walked ≡ walkedOf (pairs (bytesOf f v))
+
+-- a part of a list, taken by its own length
+take-own : (n : ℕ) (l : List ℕ) → take (length (take n l)) l ≡ take n l
+take-own zero l = refl
+take-own (suc n) [] = refl
+take-own (suc n) (x ∷ l) = ap (λ (r : List ℕ). x ∷ r) (take-own n l)
+
+-- a voice where its span lies
+span-in : (f : List ℕ) (s : Span) → Passes (pairs (partOf f s)) → length f ≤ 65536 → s .from ≤ 65536 → InSong f (voiceOf (s .from) (partOf f s))
+span-in f s p short low =
+    let own = take-own (s .len) (drop (s .from) f) in
+    record { passes = rw own p; short = short; low = low; events = rw own; walked = rw own }
+
+pub in-song : (f : List ℕ) (s : Song) (n : ℕ) → musOutcome f ≡ accepted s → InSong f (songVoice s n)
+unfolding songOf
+in-song f s n e =
+    let c = accepted-clear f s e in
+    let k = c .0 .container in
+    let short = short-file f k in
+    subst (λ (x : Song). InSong f (songVoice x n)) (c .1)
+    (go (eqb n 1) (eqb n 2)
+    (span-in f (layoutOf f .voice1) (c .0 .voice1) short (omega (arith, voice1-fits f k .2)))
+    (span-in f (layoutOf f .voice2) (c .0 .voice2) short (omega (arith, voice2-fits f k .2)))
+    (span-in f (layoutOf f .voice3) (c .0 .voice3) short (omega (arith, voice3-fits f k .2))))
+  where
+    go : (a b : Bool) {v1 v2 v3 : Voice} → InSong f v1 → InSong f v2 → InSong f v3 → InSong f (cond a v1 (cond b v2 v3))
+    go true b x y z = x
+    go false true x y z = y
+    go false false x y z = z
+
+pub asked-in-song : (f : List ℕ) (n : ℕ) (v : Voice) → voiceAsked f n ≡ accepted v → InSong f v
+asked-in-song f n v e = let a = asked-accepted f n v e in subst (InSong f) (a .voice) (in-song f (a .song) n (a .file))
