@@ -7,16 +7,17 @@
 use Prim.Native.Nat.{ℕ}
 use mathlib.Core.List.{List}
 use mathlib.Core.Bool.{cond}
-use lib.Dec.{eqb, leb}
-use Rattle.refusals.specs.Numbers.{Outcome, numberOf}
+use lib.Dec.{eqb}
+use Rattle.refusals.specs.Numbers.{Outcome}
 use Rattle.refusals.specs.Numbers.Outcome.{accepted, refused}
-use Rattle.refusals.specs.Numbers.Reason.{voicesPastFile}
 use Rattle.fields.specs.Numbers.{be32}
 use Rattle.sidheader.specs.Fields.{psid, rsid}
 use Rattle.sid.specs.declared.Kind.{Kind}
 use Rattle.sid.specs.declared.Kind.the-variants.{Psid, Rsid}
 use Rattle.sid.specs.declared.Header.{Header}
 use Rattle.sid.specs.Answers.{sidOutcome}
+use Rattle.container.specs.declared.Voices.{Voices}
+use Rattle.container.specs.Head.{headOutcome}
 use Rattle.mus.specs.declared.Song.{Song}
 use Rattle.mus.specs.Song.{musOutcome}
 use Rattle.card.specs.declared.Judged.{Judged}
@@ -40,11 +41,12 @@ abbrev pub asTune : Kind → Outcome Header → Judgement
 asTune kind (accepted h) = tune h
 asTune kind (refused number place) = refusedTune kind number place
 
-abbrev pub asSong : Outcome Song → Judgement
-asSong (accepted s) = song s
-asSong (refused number place) = cond (leb number (numberOf voicesPastFile)) (neither number place) (refusedSong number place)
+abbrev pub asSong : Outcome Voices → Outcome Song → Judgement
+asSong (refused number place) o = neither number place
+asSong (accepted v) (accepted s) = song s
+asSong (accepted v) (refused number place) = refusedSong number place
 
 abbrev pub judged : List ℕ → Judgement
 judged f =
     cond (eqb (be32 f 0) psid) (asTune Psid (sidOutcome f))
-    (cond (eqb (be32 f 0) rsid) (asTune Rsid (sidOutcome f)) (asSong (musOutcome f)))
+    (cond (eqb (be32 f 0) rsid) (asTune Rsid (sidOutcome f)) (asSong (headOutcome f) (musOutcome f)))

@@ -1,39 +1,43 @@
 -- Every file that a reader accepts is judged so: no tune and no song is lost by the way its kind is told.
 -- tune-judged   a file that is accepted as PSID or RSID
 -- song-judged   a file that is accepted as MUS: begun with PSID or RSID, the length of its first voice would be odd (23)
+-- byNumber, judged-by-number   a MUS reader's own refusal tells the same: its number is 24 or less where the file is neither
 use Prim.Native.Nat.{ℕ, _+_, _*_, _<_, _%_}
 use mathlib.Core.Path.{_≡_, refl, sym, subst}
-use mathlib.Core.Bool.{Bool, true, false, not, _&&_, false≢true, cond}
+use mathlib.Core.Bool.{false≢true, cond}
 use mathlib.Core.List.{List}
 use native.Mathlib.Omega.{arith}
-use lib.Dec.{eqb, lit<}
+use lib.Dec.{eqb, leb, lit<}
 use lib.ListN.{getD}
-use borrow.Author.Tests.{eqb-false, ne-eqb}
+use borrow.Author.Tests.{eqb-false, ne-eqb, le-leb, lt-leb}
+use Rattle.logic.specs.Cases.{cases}
 use Rattle.logic.specs.Truth.{neither}
-use Rattle.refusals.specs.Numbers.Outcome.{accepted}
+use Rattle.refusals.specs.Numbers.{Outcome}
+use Rattle.refusals.specs.Numbers.Outcome.{accepted, refused}
 use Rattle.fields.specs.Numbers.{be16, be32, le16}
 use Rattle.sidheader.specs.Fields.{psid, rsid, fieldsOf}
 use Rattle.sidrefusals.specs.PayloadTests.{sidTests}
 use Rattle.sid.specs.declared.Header.{Header}
-use Rattle.sid.specs.declared.Kind.the-variants.{Psid, Rsid}
 use Rattle.sid.specs.Answers.{sidOutcome}
 use Rattle.sid.specs.Laws.{accepted-none}
-use Rattle.container.specs.Head.{headOf, badLength}
+use Rattle.container.specs.declared.Voices.{Voices}
+use Rattle.container.specs.Head.{headOf, badLength, headOutcome}
 use Rattle.container.specs.Layout.{containerTests}
+use Rattle.container.specs.Laws.{layout-head}
+use Rattle.container.specs.ByNumber.{head-number}
 use Rattle.mus.specs.declared.Song.{Song}
 use Rattle.mus.specs.Song.{musOutcome}
-use Rattle.mus.specs.Laws.{accepted-clear}
+use Rattle.mus.specs.Laws.{accepted-clear, head-refused}
+use Rattle.mus.specs.ByNumber.{Above, head-above}
 use Rattle.card.specs.Judging as judging
-use Rattle.card.specs.Judging.{asTune, asSong, judged}
+use Rattle.card.specs.Judging.{Judgement, asSong, judged}
 
 pub tune-judged : (f : List ℕ) (h : Header) → sidOutcome f ≡ accepted h → judged f ≡ judging.Judgement.tune h
 unfolding sidTests fieldsOf
-tune-judged f h e = rw e (go (eqb (be32 f 0) psid) (eqb (be32 f 0) rsid) (accepted-none f h e .1 .0))
-  where
-    go : (p r : Bool) → not p && not r ≡ false → cond p (asTune Psid (accepted h)) (cond r (asTune Rsid (accepted h)) (asSong (musOutcome f))) ≡ judging.Judgement.tune h
-    go true r q = refl
-    go false true q = refl
-    go false false q = absurd (false≢true (sym q))
+tune-judged f h e =
+    rw e
+    (cases (eqb (be32 f 0) psid) (λ p. rw p)
+    (λ p. cases (eqb (be32 f 0) rsid) (λ r. rw (p, r)) (λ r. absurd (false≢true (sym (rw (p, r) at (accepted-none f h e .1 .0)))))))
 
 -- the low half of a number of 32 bits
 low-half : (a b c d : ℕ) → b < 65536 → d < 65536 → a * 65536 + b ≡ c * 65536 + d → b ≡ d
@@ -68,4 +72,19 @@ module _ (f : List ℕ) (s : Song) (e : musOutcome f ≡ accepted s) (low : getD
   no-rsid q = no-letters (low-half (getD f 0 0 * 256 + getD f 1 0) (getD f 2 0 * 256 + getD f 3 0) 0x5253 0x4944 (omega (arith, low, high)) (lit< tt) q)
 
   pub song-judged : judged f ≡ judging.Judgement.song s
-  song-judged = rw (ne-eqb (be32 f 0) psid no-psid, ne-eqb (be32 f 0) rsid no-rsid, e)
+  song-judged = rw (ne-eqb (be32 f 0) psid no-psid, ne-eqb (be32 f 0) rsid no-rsid, layout-head f (accepted-clear f s e .0 .container), e)
+
+abbrev pub byNumber : Outcome Song → Judgement
+byNumber (accepted s) = judging.Judgement.song s
+byNumber (refused number place) = cond (leb number 24) (judging.Judgement.neither number place) (judging.Judgement.refusedSong number place)
+
+pub judged-by-number : (f : List ℕ) → asSong (headOutcome f) (musOutcome f) ≡ byNumber (musOutcome f)
+judged-by-number f = go (headOutcome f) refl
+  where
+    above : (v : Voices) (o : Outcome Song) → Above 24 o → asSong (accepted v) o ≡ byNumber o
+    above v (accepted s) h = refl
+    above v (refused n p) h = rw (lt-leb n 24 h)
+
+    go : (o : Outcome Voices) → headOutcome f ≡ o → asSong o (musOutcome f) ≡ byNumber (musOutcome f)
+    go (accepted v) e = above v (musOutcome f) (head-above f v e)
+    go (refused n p) e = rw (head-refused f n p e, le-leb n 24 (head-number f n p e))

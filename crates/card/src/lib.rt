@@ -1,8 +1,10 @@
 // What a file of a card is, told from its content: a PSID or RSID tune, a MUS song, or neither. The call answers for every file.
 ghost use mathlib.Core.Path.{_≡_};
 ghost use Rattle.sid.specs.Answers.{sidOutcome};
+ghost use Rattle.container.specs.Head.{headOutcome};
 ghost use Rattle.mus.specs.Song.{musOutcome};
 ghost use Rattle.card.specs.Judging.{told, asTune, asSong, judged};
+use container::Heading;
 use mus::Song;
 use refusals::Refusal;
 use sid::Header;
@@ -18,9 +20,6 @@ pub enum Judged {
     Neither(Refusal),
 }
 
-// The last number that says of a file that its first eight bytes do not describe it as a MUS song.
-const NO_SONG: u32 = refusals::VOICES_PAST_FILE;
-
 // A file that begins as a PSID or RSID.
 fn as_tune(file: &[u8], kind: Kind) -> Judged
     ensures { λ r. ⌜ told r ≡ asTune kind (sidOutcome (now (file .entry))) ⌝ }
@@ -31,19 +30,16 @@ fn as_tune(file: &[u8], kind: Kind) -> Judged
     }
 }
 
-// Any other file.
+// Any other file: a song where its first eight bytes describe it as one.
 fn as_song(file: &[u8]) -> Judged
-    ensures { λ r. ⌜ told r ≡ asSong (musOutcome (now (file .entry))) ⌝ }
+    ensures { λ r. ⌜ told r ≡ asSong (headOutcome (now (file .entry))) (musOutcome (now (file .entry))) ⌝ }
 {
-    match mus::accept(file) {
-        mus::Reading::Accepted(s) => Judged::Song(s),
-        mus::Reading::Refused(x) => {
-            if x.number <= NO_SONG {
-                Judged::Neither(x)
-            } else {
-                Judged::RefusedSong(x)
-            }
-        }
+    match container::read_head(file) {
+        Heading::Refused(x) => Judged::Neither(x),
+        Heading::Fits(_) => match mus::accept(file) {
+            mus::Reading::Accepted(s) => Judged::Song(s),
+            mus::Reading::Refused(x) => Judged::RefusedSong(x),
+        },
     }
 }
 

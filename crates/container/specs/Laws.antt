@@ -5,6 +5,7 @@
 -- VoiceFits                        a voice has an even number of bytes, not 0, and lies in the file
 -- HeadFits, head-fits              what 21 to 24 leave: a file of at most 65,536 bytes, and three such voices
 -- head-none                        an answer with the voices: none of 21 to 24 applies, and it is where they lie
+-- long-head                        a file of more than 65,536 bytes is 22
 -- head-first, layout-head          21 to 24 come first; where none of 21 to 26 applies, none of 21 to 24 does
 -- short-file, voices-within, voice1-fits, ..   the same of a right container
 -- text-right, text-last, text-whole   the text is five lines and a $00, and the file ends with it
@@ -15,7 +16,7 @@ use mathlib.Core.List.{List, []}
 use native.Mathlib.Omega.{arith}
 use lib.ListN.{length, take, drop, drop-of-length-le}
 use lib.Dec.{ltb, eqb}
-use borrow.Author.Tests.{ltb-false, eqb-false, not-false}
+use borrow.Author.Tests.{lt-ltb, le-ltb, ltb-false, eqb-false, not-false}
 use Rattle.logic.specs.Truth.{neither}
 use Rattle.refusals.specs.Numbers.Outcome.{accepted, refused}
 use Rattle.refusals.specs.declared.Verdict.{Verdict}
@@ -96,6 +97,10 @@ head-fits f none =
 pub head-none : (f : List ℕ) (v : Voices) → headOutcome f ≡ accepted v → None (headTests (headOf f)) × (voicesOf (headOf f) ≡ v)
 unfolding headOutcome
 head-none f v e = let p = guarded-accepted (firstOf (headTests (headOf f))) v (voicesOf (headOf f)) e in (passed-none (headTests (headOf f)) (p .0), p .1)
+
+pub long-head : (f : List ℕ) → 65536 < length f → headOutcome f ≡ refused 22 0
+unfolding headOutcome headOf
+long-head f h = rw (le-ltb (length f) 8 (omega arith), lt-ltb 65536 (length f) h)
 
 pub head-first : (f : List ℕ) (n p : ℕ) → headOutcome f ≡ refused n p → containerOutcome f ≡ refused n p
 unfolding headOutcome containerOutcome containerTests

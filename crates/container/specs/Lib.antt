@@ -4,3 +4,4 @@ pub mod Layout
 pub mod TextLaws
 pub mod TextForm
 pub mod Laws
+pub mod ByNumber

@@ -7,13 +7,13 @@
 -- Given, next-given               where what comes after a part is accepted, so is the part
 -- clear-accepted, accepted-clear  a file is accepted exactly when none applies
 -- told-once                       no two answers are told alike
+-- head-refused                    21 to 24 come first
 -- long-refused, cut-off           a file of more than 65,536 bytes is 22, and so is what is left of it that is as long
 -- line-text                       a line of an accepted file is the paper's line
 use Prim.Native.Nat.{ℕ, _<_}
 use mathlib.Core.Path.{_≡_, refl, sym, ap, _∙_, subst}
 use mathlib.Core.List.{List}
 use native.Mathlib.Omega.{arith}
-use borrow.Author.Tests.{lt-ltb, le-ltb}
 use lib.ListN.{length, take, length-take}
 use Rattle.fields.specs.Parts.{partOf}
 use Rattle.meaning.specs.declared.Meaning.{Meaning}
@@ -25,10 +25,10 @@ use Rattle.refusals.specs.declared.Verdict.{Verdict}
 use Rattle.refusals.specs.declared.Verdict.the-variants.{Passed, Failed}
 use Rattle.fields.specs.declared.Span.{Span}
 use Rattle.container.specs.declared.Layout.{Layout}
-use Rattle.container.specs.Head.{headOf, voicesEnd}
+use Rattle.container.specs.Head.{headOf, voicesEnd, headOutcome}
 use Rattle.container.specs.Text.{line}
 use Rattle.container.specs.Layout.{layoutOf, containerTests, containerOutcome}
-use Rattle.container.specs.Laws.{none-layout, layout-none, layout-of, lines-part}
+use Rattle.container.specs.Laws.{none-layout, layout-none, layout-of, lines-part, head-first, long-head}
 use Rattle.bodies.specs.Voice.{pairs}
 use Rattle.bodies.specs.Playing.{eventsOf, walkedOf}
 use Rattle.structure.specs.declared.Finding.{Finding}
@@ -145,9 +145,12 @@ accepted-clear f s e =
         → songWith l (voiceAt f (l .voice1)) (voiceAt f (l .voice2)) (voiceAt f (l .voice3)) ≡ songWith l a b c
     together l p q r = λ i. songWith l (p i) (q i) (r i)
 
+pub head-refused : (f : List ℕ) (n p : ℕ) → headOutcome f ≡ refused n p → musOutcome f ≡ refused n p
+unfolding musOutcome
+head-refused f n p e = rw (head-first f n p e)
+
 pub long-refused : (f : List ℕ) → 65536 < length f → musOutcome f ≡ refused 22 0
-unfolding musOutcome containerOutcome containerTests headOf
-long-refused f h = rw (le-ltb (length f) 8 (omega arith), lt-ltb 65536 (length f) h)
+long-refused f h = head-refused f 22 0 (long-head f h)
 
 pub cut-off : (f : List ℕ) (n : ℕ) → 65536 < length f → 65536 < n → musOutcome (take n f) ≡ musOutcome f
 cut-off f n h g = long-refused (take n f) (omega (arith, length-take n f)) ∙ sym (long-refused f h)

@@ -5,4 +5,5 @@ pub mod Text
 pub mod Asked
 pub mod Laws
 pub mod AskedLaws
+pub mod ByNumber
 pub mod Example

@@ -1,0 +1,53 @@
+-- A refusal's number says which tests it is of: 21 to 24 are the head's.
+-- Each, first-each   what holds of the number of each test holds of the number that they come to
+-- head-number        the head's refusals are 24 or less
+-- text-number        those of a file whose head is right are above 24
+use Prim.Native.Nat.{ℕ, _≤_, _<_}
+use mathlib.Core.Path.{_≡_, refl, sym, subst}
+use mathlib.Core.Bool.{Bool, true, false, cond}
+use mathlib.Core.List.{List, [], _∷_}
+use native.Mathlib.Omega.{arith}
+use lib.Dec.{lit≤, lit<}
+use lib.ListN.{length}
+use Rattle.refusals.specs.Numbers.{numberOf}
+use Rattle.refusals.specs.Numbers.Outcome.{accepted, refused}
+use Rattle.refusals.specs.declared.Verdict.{Verdict}
+use Rattle.refusals.specs.declared.Verdict.the-variants.{Passed, Failed}
+use Rattle.refusals.specs.Tests.{Test, firstOf, guarded}
+use Rattle.refusals.specs.Laws.{none-passed, first-append, two-ways}
+use Rattle.container.specs.declared.Voices.{Voices}
+use Rattle.container.specs.Head.{headOf, voicesOf, headTests, headOutcome}
+use Rattle.container.specs.Text.{textTests}
+use Rattle.container.specs.Layout.{textIn, layoutOf, containerTests, containerOutcome}
+use Rattle.container.specs.Laws.{head-none}
+
+module _ (P : ℕ → Type 0) where
+  abbrev pub Each : List Test → Type 0
+  Each [] = Unit
+  Each (t ∷ ts) = P (numberOf (t .reason)) × Each ts
+
+  pub first-each : (ts : List Test) → Each ts → (n : ℕ) → firstOf ts ≡ Failed n → P n
+  first-each [] h n e = absurd (let z : _≡_ {A = ℕ} 0 1 = cc in omega arith)
+  first-each (t ∷ ts) h n e = go (t .applies) (first-each ts (h .1) n) e
+    where
+      go : (b : Bool) → (firstOf ts ≡ Failed n → P n) → cond b (Failed (numberOf (t .reason))) (firstOf ts) ≡ Failed n → P n
+      go true later q = let is : numberOf (t .reason) ≡ n = cc in subst P is (h .0)
+      go false later q = later q
+
+-- what tests before a value refuse, they refuse with their own number
+guarded-each : {A : Type 0} (P : ℕ → Type 0) (ts : List Test) (a : A) → Each P ts → (n p : ℕ) → guarded (firstOf ts) (accepted a) ≡ refused n p → P n
+guarded-each P ts a h n p e = go (firstOf ts) refl e
+  where
+    go : (v : Verdict) → firstOf ts ≡ v → guarded v (accepted a) ≡ refused n p → P n
+    go Passed q r = absurd (two-ways (sym r))
+    go (Failed m) q r = let is : m ≡ n = cc in subst P is (first-each P ts h m q)
+
+pub head-number : (f : List ℕ) (n p : ℕ) → headOutcome f ≡ refused n p → n ≤ 24
+unfolding headOutcome
+head-number f n p e = guarded-each (λ k. k ≤ 24) (headTests (headOf f)) (voicesOf (headOf f)) (lit≤ tt, (lit≤ tt, (lit≤ tt, (lit≤ tt, tt)))) n p e
+
+pub text-number : (f : List ℕ) (v : Voices) (n p : ℕ) → headOutcome f ≡ accepted v → containerOutcome f ≡ refused n p → 24 < n
+unfolding containerOutcome containerTests
+text-number f v n p h e =
+    guarded-each (λ k. 24 < k) (textTests (textIn f) (length f)) (layoutOf f) (lit< tt, (lit< tt, tt)) n p
+    (rw (first-append (headTests (headOf f)) (textTests (textIn f) (length f)), none-passed (headTests (headOf f)) (head-none f v h .0)) at e)

@@ -1,0 +1,109 @@
+-- A file's head is right exactly where its refusal, if there is one, has a number above 24.
+-- Above          a refusal's number is above another number
+-- voice-above    a voice is refused with a number above 26
+-- head-above     a file whose head is right is refused with a number above 24
+use Prim.Native.Nat.{ℕ, _+_, _<_}
+use mathlib.Core.Path.{_≡_, refl, subst}
+use mathlib.Core.List.{List, [], _∷_}
+use native.Mathlib.Omega.{arith}
+use lib.Dec.{lit<}
+use lib.ListN.{length}
+use Rattle.fields.specs.declared.Span.{Span}
+use Rattle.meaning.specs.declared.Meaning.{Meaning}
+use Rattle.refusals.specs.Numbers.{Outcome}
+use Rattle.refusals.specs.Numbers.Outcome.{accepted, refused}
+use Rattle.refusals.specs.declared.Verdict.{Verdict}
+use Rattle.refusals.specs.declared.Verdict.the-variants.{Passed, Failed}
+use Rattle.refusals.specs.Tests.{Test, firstOf}
+use Rattle.container.specs.declared.Voices.{Voices}
+use Rattle.container.specs.declared.Layout.{Layout}
+use Rattle.container.specs.Head.{headOutcome}
+use Rattle.container.specs.Layout.{containerOutcome}
+use Rattle.container.specs.ByNumber.{Each, first-each, text-number}
+use Rattle.bodies.specs.Voice.{pairs}
+use Rattle.bodies.specs.Playing.{eventsOf, walkedOf}
+use Rattle.structure.specs.declared.Finding.{Finding}
+use Rattle.structure.specs.declared.Finding.the-variants.{Clear, At}
+use Rattle.structure.specs.Tests.{Nesting, start}
+use Rattle.structure.specs.Findings.{foundAt, firstAt, pairsTests, nestingsTests, pairsFinding, structureFinding}
+use Rattle.counts.specs.declared.Counted.the-variants.{Within}
+use Rattle.counts.specs.Limits.{limitTests, unlessOff, countOutcome}
+use Rattle.mus.specs.Voices.{orFound, limited, voiceOutcome}
+use Rattle.mus.specs.Song.{next, voiceIn, songWith, songIn, musOutcome}
+
+abbrev pub Above : {A : Type 0} → ℕ → Outcome A → Type 0
+Above k (accepted a) = Unit
+Above k (refused n p) = k < n
+
+-- a voice's numbers
+abbrev Late : ℕ → Type 0
+Late n = 26 < n
+
+abbrev EachPair : List (List Test) → Type 0
+EachPair [] = Unit
+EachPair (ts ∷ later) = Each Late ts × EachPair later
+
+pairs-late : (v : List (Outcome Meaning)) → EachPair (pairsTests v)
+unfolding pairsTests
+pairs-late [] = tt
+pairs-late (m ∷ ms) = ((lit< tt, (lit< tt, (lit< tt, tt))), pairs-late ms)
+
+nestings-late : (o : Nesting) (v : List (Outcome Meaning)) → EachPair (nestingsTests o v)
+unfolding nestingsTests
+nestings-late o [] = tt
+nestings-late o (m ∷ ms) = ((lit< tt, (lit< tt, tt)), nestings-late _ ms)
+
+found-late : (i : ℕ) (tss : List (List Test)) → EachPair tss → (n j : ℕ) → firstAt i tss ≡ At n j → Late n
+unfolding firstAt
+found-late i [] h n j e = absurd (let z : _≡_ {A = ℕ} 0 1 = cc in omega arith)
+found-late i (ts ∷ later) h n j e = go (firstOf ts) refl (found-late (i + 1) later (h .1) n j) e
+  where
+    go : (v : Verdict) → firstOf ts ≡ v → (firstAt (i + 1) later ≡ At n j → Late n) → foundAt v i (firstAt (i + 1) later) ≡ At n j → Late n
+    go Passed q rest r = rest r
+    go (Failed m) q rest r = let is : m ≡ n = cc in subst Late is (first-each Late ts (h .0) m q)
+
+or-found-above : {A : Type 0} (offset : ℕ) (x : Finding) (later : Outcome A) → ((n i : ℕ) → x ≡ At n i → Late n) → Above 26 later → Above 26 (orFound offset x later)
+or-found-above offset Clear later h l = l
+or-found-above offset (At n i) later h l = h n i refl
+
+limited-above : (offset len : ℕ) (v : List (Outcome Meaning)) → Above 26 (limited offset len (countOutcome v))
+limited-above offset len v = go (firstOf (limitTests v)) refl
+  where
+    go : (x : Verdict) → firstOf (limitTests v) ≡ x → Above 26 (limited offset len (unlessOff x (Within (eventsOf v) (walkedOf v))))
+    go Passed e = tt
+    go (Failed n) e = first-each Late (limitTests v) (lit< tt, (lit< tt, tt)) n e
+
+pub voice-above : (offset : ℕ) (bs : List ℕ) → Above 26 (voiceOutcome offset bs)
+unfolding voiceOutcome pairsFinding structureFinding
+voice-above offset bs =
+    let v = pairs bs in
+    or-found-above offset (pairsFinding v) (orFound offset (structureFinding v) (limited offset (length bs) (countOutcome v))) (found-late 0 (pairsTests v) (pairs-late v))
+    (or-found-above offset (structureFinding v) (limited offset (length bs) (countOutcome v)) (found-late 0 (nestingsTests start v) (nestings-late start v))
+    (limited-above offset (length bs) v))
+
+-- an outcome that comes after another
+next-above : {A B : Type 0} (o : Outcome A) (g : A → Outcome B) → Above 24 o → ((a : A) → Above 24 (g a)) → Above 24 (next o g)
+next-above (accepted a) g l h = h a
+next-above (refused n p) g l h = l
+
+lower : {A : Type 0} (o : Outcome A) → Above 26 o → Above 24 o
+lower (accepted a) l = tt
+lower (refused n p) l = omega arith
+
+module _ (f : List ℕ) where
+  span-above : (s : Span) → Above 24 (voiceIn f s)
+  span-above s = lower (voiceIn f s) (voice-above _ _)
+
+  song-above : (l : Layout) → Above 24 (songIn f l)
+  song-above l =
+      next-above (voiceIn f (l .voice1)) (λ v1. next (voiceIn f (l .voice2)) (λ v2. next (voiceIn f (l .voice3)) (λ v3. accepted (songWith l v1 v2 v3)))) (span-above (l .voice1))
+      (λ v1. next-above (voiceIn f (l .voice2)) (λ v2. next (voiceIn f (l .voice3)) (λ v3. accepted (songWith l v1 v2 v3))) (span-above (l .voice2))
+      (λ v2. next-above (voiceIn f (l .voice3)) (λ v3. accepted (songWith l v1 v2 v3)) (span-above (l .voice3)) (λ v3. tt)))
+
+  pub head-above : (v : Voices) → headOutcome f ≡ accepted v → Above 24 (musOutcome f)
+  unfolding musOutcome
+  head-above v e = next-above (containerOutcome f) (λ l. songIn f l) (go (containerOutcome f) refl) song-above
+    where
+      go : (o : Outcome Layout) → containerOutcome f ≡ o → Above 24 o
+      go (accepted l) q = tt
+      go (refused n p) q = text-number f v n p e q
