@@ -1,7 +1,7 @@
 -- Each meaning that some pair has, has a code of 32 bits, and the code's meaning is that one.
 -- plain-code, negative-code   the code of a command's number and value, taken apart
 -- room                        whether a code's digits have room for a command's number and its values
--- count-coded, fixed-coded, signed-coded, note-coded   a command of any value, of one of few, with a sign; a note
+-- count-coded, fixed-coded, signed-coded, note-coded   a command of any value, of few, with a sign; a note
 -- coded                       so for every meaning that some pair has
 use Prim.Native.Nat.{ℕ, _+_, _*_, _-_, _/_, _%_, _≤_, _<_}
 use mathlib.Core.Path.{_≡_, refl, _∙_, ap}
@@ -13,7 +13,8 @@ use borrow.Author.Tests.{ne-eqb, leb-true, ltb-true}
 use Rattle.logic.specs.Truth.{both}
 use Rattle.refusals.specs.Numbers.Outcome.{accepted}
 use Rattle.meaning.specs.declared.Duration.{Duration}
-use Rattle.meaning.specs.declared.Duration.the-variants.{Whole, Half, Quarter, Eighth, Sixteenth, ThirtySecond, SixtyFourth, UtilityDuration, UtilityVoice, AbsolutePitch}
+use Rattle.meaning.specs.declared.Duration.the-variants.{Whole, Half, Quarter, Eighth, Sixteenth, ThirtySecond}
+use Rattle.meaning.specs.declared.Duration.the-variants.{SixtyFourth, UtilityDuration, UtilityVoice, AbsolutePitch}
 use Rattle.meaning.specs.declared.Shape.{Shape}
 use Rattle.meaning.specs.declared.Shape.the-variants.{Plain, Dotted, DoubleDotted, Triplet}
 use Rattle.meaning.specs.declared.Letter.{Letter}
@@ -31,7 +32,9 @@ use Rattle.decoding.specs.Tables.{lookup, durations, shapes, ties, letters, acc
 use Rattle.decoding.specs.Decoding.{toneAt, commandAt, decoded}
 use Rattle.codelaws.specs.Statements.{Written, Coded}
 use Rattle.codelaws.proofs.Decoding.{up, down}
-use Rattle.codelaws.proofs.Sizes.{counted-small, phrase-small, destination-small, alone-small, joined-small, tempo-small, Small, byte-small, jif-small, dtn-small, tps-small, rtp-small, SmallTone, tone-small}
+use Rattle.codelaws.proofs.Sizes.{counted-small, phrase-small, destination-small, alone-small, joined-small}
+use Rattle.codelaws.proofs.Sizes.{tempo-small, Small, byte-small, jif-small, dtn-small, tps-small, rtp-small}
+use Rattle.codelaws.proofs.Sizes.{SmallTone, tone-small}
 
 -- the last hex digit of a number with one more digit
 digit-0 : (k : ℕ) → k * 0x10 % 0x10 ≡ 0

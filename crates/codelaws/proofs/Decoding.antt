@@ -1,6 +1,6 @@
--- Decoding gives back what was coded: of every number, the meaning that it decodes to has that number as its code.
+-- Decoding gives back what was coded: the meaning that a number decodes to has that number as its code.
 -- Is                         a value that has this number, by a function that gives a value's number
--- Right                      what an outcome says of a number: its meaning's code is the number; if it is refused, it is 43
+-- Right                      an outcome of a number: its meaning's code is the number; a refusal is 43
 -- Each, found                what holds of each entry of a table holds of what is found
 -- after-part, after-entry    so of what comes after it
 -- durations-right to accidentals-right, tone-found, note-right   a note, digit by digit

@@ -1,10 +1,11 @@
--- The code of a meaning: coding and decoding are inverse, and a number is a code exactly of a meaning that some pair has.
+-- The code of a meaning: coding and decoding are inverse. Each meaning that some pair has has a code,
+-- and a number that is no code is refused.
 -- written-coded     each meaning that some pair has, has a code of 32 bits that decodes to it
 -- coded-once        no two of them share a code
 -- decoded-coded     a number that decodes has the meaning's code
 -- decoded-once      no two numbers decode to one meaning
 -- read-coded        what two bytes mean has such a code
--- undecoded, unwritten   a number that does not decode is refused with 43, and so is a meaning that is not written
+-- undecoded, unwritten   a number that does not decode is refused with 43, a meaning that is not written too
 use Prim.Native.Nat.{ℕ, _<_}
 use mathlib.Core.Path.{_≡_, sym, _∙_, ap, subst}
 use Rattle.refusals.specs.Numbers.{Outcome}

@@ -12,7 +12,8 @@ use Rattle.refusals.specs.Numbers.Outcome.{accepted}
 use Rattle.meaning.specs.declared.Meaning.{Meaning}
 use Rattle.meaning.specs.declared.Meaning.the-variants as M
 use Rattle.note.specs.Reading.{noteOf}
-use Rattle.commandtable.specs.Codes.{Command, DCY, RUP, CAL, BMP, FLT, RNG, SNC, F-X, DEF, ATK, SUS, LFO, P&V, RDN, WAV, F-M, RLS, RES, 3-0, VOL, TAL, END, HLT, SRC, DST, none, coded, secondOutcome}
+use Rattle.commandtable.specs.Codes.{Command, DCY, RUP, CAL, BMP, FLT, RNG, SNC, F-X, DEF, ATK, SUS, LFO, P&V, RDN, WAV}
+use Rattle.commandtable.specs.Codes.{F-M, RLS, RES, 3-0, VOL, TAL, END, HLT, SRC, DST, none, coded, secondOutcome}
 use Rattle.commandtable.specs.Codes as codes
 use Rattle.commandtable.specs.Patterns.{O, I, n, byte, number}
 use Rattle.commandsigns.specs.Signs.{outOfRange, signedByte, scaOutcome, tpsOutcome, tpsValue, rtpOutcome, rtpValue, jifOutcome}

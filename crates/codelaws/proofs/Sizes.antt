@@ -1,7 +1,7 @@
 -- A value that some pair has is small: what is written of it says so.
--- counted-small, phrase-small, destination-small, alone-small, joined-small, tempo-small   values without a sign
+-- counted-small, phrase-small, destination-small, alone-small, joined-small, tempo-small   without a sign
 -- Small                the size of a value with a sign
--- byte-small, jif-small, dtn-small, tps-small, rtp-small   values with one
+-- byte-small, jif-small, dtn-small, tps-small, rtp-small   with one
 -- tone-small           a note's octave
 use Prim.Native.Nat.{ℕ, _+_, _*_, _-_, _/_, _%_, _≤_}
 use mathlib.Core.Path.{_≡_, refl}

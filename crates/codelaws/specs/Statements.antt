@@ -1,8 +1,10 @@
 -- What the laws of codes say; proofs/Laws.antt has them for all.
--- PairRefused   document 01, 'What comes back': an outcome of one pair is refused with 27 or 28, and 'a call on one pair gives 0'
+-- PairRefused   document 01, 'What comes back': an outcome of one pair is refused with 27 or 28,
+--               and 'a call on one pair gives 0'
 -- WithoutPair   docs/INTERFACE.md: an outcome that is refused is 43, at place 0
 -- Written       a meaning that some pair has
--- Coded         docs/INTERFACE.md: 'Each meaning that some pair has has one code', of 32 bits, and the code's meaning is that one
+-- Coded         docs/INTERFACE.md: 'Each meaning that some pair has has one code', of 32 bits,
+--               and the code's meaning is that one
 use Prim.Native.Nat.{ℕ, _<_}
 use mathlib.Core.Path.{_≡_}
 use mathlib.Core.Logic.{_⊎_}

@@ -1,1 +1,1 @@
-// Laws of the code of a meaning, of the definitions alone: specs/ states them and proofs/ proves them. No code.
+// Laws of the code of a meaning, of the definitions alone: specs/ states them, proofs/ proves them. No code.

@@ -1,6 +1,8 @@
--- docs/INTERFACE.md, 'The code of a meaning': eight hex digits, 1DDSTLAO for a note, 2CCSVVVV or 3CCSVVVV for a command.
+-- docs/INTERFACE.md, 'The code of a meaning': eight hex digits.
+-- 1DDSTLAO is a note, 2CCSVVVV or 3CCSVVVV a command.
 -- count          a command's code, of a value that is not negative; its three first digits are its number
--- signed         the same of a value with a sign: S is '0, or 1 for a value below 0', VVVV 'the value without its sign'
+-- signed         the same of a value with a sign: S is '0, or 1 for a value below 0',
+--                VVVV 'the value without its sign'; signedBy is its part by sign and size
 -- switch, bump   'NO is 0 and YES 1, BMP's UP is 0 and DN 1'
 -- durationDigits, shapeDigit, tieDigit, letterDigit, accidentalDigit   a note's digits
 -- toneDigits     letter, accidental and octave; '0 for a rest, whose A and O are 0 too'
@@ -10,7 +12,8 @@ use Prim.Native.Nat.{ℕ, _+_, _*_}
 use mathlib.Core.Bool.{Bool, true, false, cond}
 use lib.IntN.{ℤ}
 use Rattle.meaning.specs.declared.Duration.{Duration}
-use Rattle.meaning.specs.declared.Duration.the-variants.{Whole, Half, Quarter, Eighth, Sixteenth, ThirtySecond, SixtyFourth, UtilityDuration, UtilityVoice, AbsolutePitch}
+use Rattle.meaning.specs.declared.Duration.the-variants.{Whole, Half, Quarter, Eighth, Sixteenth, ThirtySecond}
+use Rattle.meaning.specs.declared.Duration.the-variants.{SixtyFourth, UtilityDuration, UtilityVoice, AbsolutePitch}
 use Rattle.meaning.specs.declared.Shape.{Shape}
 use Rattle.meaning.specs.declared.Shape.the-variants.{Plain, Dotted, DoubleDotted, Triplet}
 use Rattle.meaning.specs.declared.Letter.{Letter}

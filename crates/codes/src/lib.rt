@@ -1,4 +1,5 @@
-// The code of a meaning, a number that a person can read in hex: docs/INTERFACE.md fixes it. The call answers for every meaning.
+// The code of a meaning, a number that a person can read in hex: docs/INTERFACE.md fixes it.
+// The call answers for every meaning.
 ghost use mathlib.Core.Path.{_≡_};
 ghost use Rattle.codes.specs.Coding.{codeOf};
 use meaning::Meaning;

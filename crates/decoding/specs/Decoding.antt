@@ -1,4 +1,5 @@
--- docs/INTERFACE.md, 'The code of a meaning': the meaning that a number codes, or 43. That this is coding backwards is said by specs/Laws.antt and the crate codelaws.
+-- docs/INTERFACE.md, 'The code of a meaning': the meaning that a number codes, or 43.
+-- The crate codelaws proves that this is coding backwards.
 -- after         what comes after a part that is there; a refusal stands
 -- toneAt        a note's three last digits
 -- noteAt        a note's eight digits
@@ -23,11 +24,17 @@ after (refused number place) f = refused number place
 abbrev pub toneAt : ℕ → Outcome Tone
 toneAt k =
     cond (eqb k 0) (accepted Rest)
-    (after (lookup letters (k / 0x100)) (λ l. after (lookup accidentals (k / 0x10 % 0x10)) (λ a. accepted (Sounds (record { letter = l; accidental = a; octave = k % 0x10 })))))
+    (after (lookup letters (k / 0x100))
+    (λ l. after (lookup accidentals (k / 0x10 % 0x10))
+    (λ a. accepted (Sounds (record { letter = l; accidental = a; octave = k % 0x10 })))))
 
 abbrev pub noteAt : ℕ → Outcome Meaning
 noteAt n =
-    after (lookup durations (n / 0x100000 % 0x100)) (λ d. after (lookup shapes (n / 0x10000 % 0x10)) (λ s. after (lookup ties (n / 0x1000 % 0x10)) (λ t. after (toneAt (n % 0x1000)) (λ o. accepted (Note (record { duration = d; shape = s; tied = t; tone = o }))))))
+    after (lookup durations (n / 0x100000 % 0x100))
+    (λ d. after (lookup shapes (n / 0x10000 % 0x10))
+    (λ s. after (lookup ties (n / 0x1000 % 0x10))
+    (λ t. after (toneAt (n % 0x1000))
+    (λ o. accepted (Note (record { duration = d; shape = s; tied = t; tone = o }))))))
 
 abbrev pub commandAt : List (Entry (ℕ → Outcome Meaning)) → ℕ → ℕ → Outcome Meaning
 commandAt table id v = after (lookup table id) (λ m. m v)

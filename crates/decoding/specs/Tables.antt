@@ -1,9 +1,12 @@
--- docs/INTERFACE.md, 'The code of a meaning', read backwards: what each digit or command's number stands for, as tables, the same entries as in Coding.
+-- docs/INTERFACE.md, 'The code of a meaning', read backwards: what each digit or command's number stands for.
+-- The crate codelaws proves that the entries are those of the crate codes.
 -- none            43, 'every other number is a meaning without a pair'
 -- Entry, entry    a number and what it stands for
 -- lookup          what a table has for a number, or 43
 -- durations, shapes, ties, letters, accidentals   a note's digits
--- counted, switched, bumped, bare, above, below   what a command's value makes of it: a number; NO and YES; UP and DN; no value; a number above and below 0
+-- counted, switched, bumped, bare   what a command's value makes of it: a number; NO, YES; UP, DN; no value
+-- bumpAt          UP or DN
+-- above, below    a number above and below 0
 -- plain           the commands by number, of a value with sign digit 0
 -- negative        those that a value below 0 can have, with sign digit 1
 use Prim.Native.Nat.{ℕ}
@@ -12,7 +15,8 @@ use mathlib.Core.List.{List, [], _∷_}
 use lib.Dec.{eqb, leb}
 use lib.IntN.{ℤ, subℕ}
 use Rattle.meaning.specs.declared.Duration.{Duration}
-use Rattle.meaning.specs.declared.Duration.the-variants.{Whole, Half, Quarter, Eighth, Sixteenth, ThirtySecond, SixtyFourth, UtilityDuration, UtilityVoice, AbsolutePitch}
+use Rattle.meaning.specs.declared.Duration.the-variants.{Whole, Half, Quarter, Eighth, Sixteenth, ThirtySecond}
+use Rattle.meaning.specs.declared.Duration.the-variants.{SixtyFourth, UtilityDuration, UtilityVoice, AbsolutePitch}
 use Rattle.meaning.specs.declared.Shape.{Shape}
 use Rattle.meaning.specs.declared.Shape.the-variants.{Plain, Dotted, DoubleDotted, Triplet}
 use Rattle.meaning.specs.declared.Letter.{Letter}
@@ -22,7 +26,10 @@ use Rattle.meaning.specs.declared.Accidental.the-variants.{Flat, Natural, Sharp
 use Rattle.meaning.specs.declared.Bump.{Bump}
 use Rattle.meaning.specs.declared.Bump.the-variants.{Up, Down}
 use Rattle.meaning.specs.declared.Meaning.{Meaning}
-use Rattle.meaning.specs.declared.Meaning.the-variants.{Dcy, Rup, Cal, Bmp, Flt, Rng, Snc, Fx, Def, Atk, Sus, Lfo, Pv, Rdn, Wav, Fm, Rls, Res, ThreeOff, Vol, Tal, End, Hlt, Src, Dst, Pw, Tem, Utl, Pnt, Hed, Flg, Ps, Fs, Sca, Vdp, Vrt, Aut, Tps, Aux, Pvd, Pvr, Max, Utv, Fc, Rtp, Hld, Ms, Jif, Dtn, Por}
+use Rattle.meaning.specs.declared.Meaning.the-variants.{Dcy, Rup, Cal, Bmp, Flt, Rng, Snc, Fx, Def, Atk, Sus, Lfo, Pv}
+use Rattle.meaning.specs.declared.Meaning.the-variants.{Rdn, Wav, Fm, Rls, Res, ThreeOff, Vol, Tal, End, Hlt, Src}
+use Rattle.meaning.specs.declared.Meaning.the-variants.{Dst, Pw, Tem, Utl, Pnt, Hed, Flg, Ps, Fs, Sca, Vdp, Vrt, Aut}
+use Rattle.meaning.specs.declared.Meaning.the-variants.{Tps, Aux, Pvd, Pvr, Max, Utv, Fc, Rtp, Hld, Ms, Jif, Dtn, Por}
 use Rattle.refusals.specs.Numbers.{Outcome, numberOf, noPair}
 use Rattle.refusals.specs.Numbers.Outcome.{accepted, refused}
 
@@ -42,7 +49,17 @@ lookup (e ∷ es) k = cond (eqb k (e .digits)) (accepted (e .value)) (lookup es 
 
 abbrev pub durations : List (Entry Duration)
 durations =
-    entry 0x01 Whole ∷ entry 0x02 Half ∷ entry 0x04 Quarter ∷ entry 0x08 Eighth ∷ entry 0x16 Sixteenth ∷ entry 0x32 ThirtySecond ∷ entry 0x64 SixtyFourth ∷ entry 0xD1 UtilityDuration ∷ entry 0xD2 UtilityVoice ∷ entry 0xAB AbsolutePitch ∷ []
+    entry 0x01 Whole
+    ∷ entry 0x02 Half
+    ∷ entry 0x04 Quarter
+    ∷ entry 0x08 Eighth
+    ∷ entry 0x16 Sixteenth
+    ∷ entry 0x32 ThirtySecond
+    ∷ entry 0x64 SixtyFourth
+    ∷ entry 0xD1 UtilityDuration
+    ∷ entry 0xD2 UtilityVoice
+    ∷ entry 0xAB AbsolutePitch
+    ∷ []
 
 abbrev pub shapes : List (Entry Shape)
 shapes = entry 0 Plain ∷ entry 1 Dotted ∷ entry 2 DoubleDotted ∷ entry 3 Triplet ∷ []

@@ -107,43 +107,46 @@ fn tone_at(digits: u32) -> ToneAt
     if digits == 0 {
         return ToneAt::Is(Tone::Rest);
     }
+    let letter = match letter_at(digits / 0x100) {
+        LetterAt::Is(letter) => letter,
+        LetterAt::None => return ToneAt::None,
+    };
+    let accidental = match accidental_at(digits / 0x10 % 0x10) {
+        AccidentalAt::Is(accidental) => accidental,
+        AccidentalAt::None => return ToneAt::None,
+    };
     let octave = (digits % 0x10) as u16;
-    match letter_at(digits / 0x100) {
-        LetterAt::None => ToneAt::None,
-        LetterAt::Is(letter) => match accidental_at(digits / 0x10 % 0x10) {
-            AccidentalAt::None => ToneAt::None,
-            AccidentalAt::Is(accidental) => ToneAt::Is(Tone::Sounds(Pitch {
-                letter,
-                accidental,
-                octave,
-            })),
-        },
-    }
+    ToneAt::Is(Tone::Sounds(Pitch {
+        letter,
+        accidental,
+        octave,
+    }))
 }
 
 // internal: the note of a code whose first digit is 1.
 pub fn note_at(code: u32) -> Reading
     ensures { λ r. ⌜ toldMeaning r ≡ noteAt code ⌝ }
 {
+    let duration = match duration_at(code / 0x100000 % 0x100) {
+        DurationAt::Is(duration) => duration,
+        DurationAt::None => return crate::none(),
+    };
+    let shape = match shape_at(code / 0x10000 % 0x10) {
+        ShapeAt::Is(shape) => shape,
+        ShapeAt::None => return crate::none(),
+    };
     let tie = code / 0x1000 % 0x10;
-    match duration_at(code / 0x100000 % 0x100) {
-        DurationAt::None => crate::none(),
-        DurationAt::Is(duration) => match shape_at(code / 0x10000 % 0x10) {
-            ShapeAt::None => crate::none(),
-            ShapeAt::Is(shape) => {
-                if 1 < tie {
-                    return crate::none();
-                }
-                match tone_at(code % 0x1000) {
-                    ToneAt::None => crate::none(),
-                    ToneAt::Is(tone) => Reading::Means(Meaning::Note(Note {
-                        duration,
-                        shape,
-                        tied: tie == 1,
-                        tone,
-                    })),
-                }
-            }
-        },
+    if 1 < tie {
+        return crate::none();
     }
+    let tone = match tone_at(code % 0x1000) {
+        ToneAt::Is(tone) => tone,
+        ToneAt::None => return crate::none(),
+    };
+    Reading::Means(Meaning::Note(Note {
+        duration,
+        shape,
+        tied: tie == 1,
+        tone,
+    }))
 }

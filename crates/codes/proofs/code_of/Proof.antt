@@ -1,4 +1,5 @@
--- First what is searched, two answers an arm and three arms a line. Then one line an arm, in the order of the code: its case and its callee's contract.
+-- First what is searched: two answers an arm, three arms a line.
+-- Then one line an arm, in the order of the code: its case, and its callee's contract.
 use borrow.Author.Needs.{needs}
 use Rattle.signed.specs.Laws.{kept}
 use Rattle.codes.proofs.code_of.Statement.{statement}

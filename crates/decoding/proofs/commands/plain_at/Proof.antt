@@ -1,4 +1,5 @@
--- One answer an arm: each is the command of its number. First the arms that return at once, then the others, in the order of the code.
+-- One answer an arm: each is the command of its number.
+-- First the arms that return at once, then the others, in the order of the code.
 use borrow.Author.Needs.{needs}
 use Rattle.signed.specs.Laws.{kept}
 use Rattle.decoding.specs.Tables.{plain}
