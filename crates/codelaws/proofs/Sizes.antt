@@ -98,14 +98,16 @@ abbrev pub SmallTone : Tone → Type 0
 SmallTone Rest = Unit
 SmallTone (Sounds p) = p .octave ≤ 7
 
+-- a note's second byte that is written only under a test
+paired : (t : Bool) (n : ℕ) (a : Byte) {y : Bytes} → note.both a (cond t (Is n) None) ≡ accepted y → t ≡ true
+paired true n a e = refl
+paired false n None e = absurd (none-written e)
+paired false n (Is b) e = absurd (none-written e)
+
 pub tone-small : (n : Note) {y : Bytes} → noteSpelling n ≡ accepted y → SmallTone (n .tone)
 tone-small n {y} e = go (n .tone) (firstByte (n .duration) (n .shape) (n .tied)) e
   where
     go : (t : Tone) (a : Byte) → note.both a (toneByte t) ≡ accepted y → SmallTone t
     go Rest a q = tt
-    go (Sounds p) a q = octave-low p (go-table (inTables p) a q)
-      where
-        go-table : (i : Bool) (a : Byte) → note.both a (cond i (Is (accidentalBits (p .accidental) + 8 * (7 - p .octave) + letterNumber (p .letter))) None) ≡ accepted y → i ≡ true
-        go-table true a q = refl
-        go-table false None q = absurd (none-written q)
-        go-table false (Is b) q = absurd (none-written q)
+    go (Sounds p) a q =
+        octave-low p (paired (inTables p) (accidentalBits (p .accidental) + 8 * (7 - p .octave) + letterNumber (p .letter)) a q)
