@@ -7,7 +7,6 @@
 -- length-bound    no event is longer than a double dotted whole note at tempo 256
 use Prim.Native.Nat.{ℕ, zero, suc, _+_, _/_, _≤_, _<_}
 use mathlib.Core.Path.{_≡_, refl, ap, sym, _∙_}
-use mathlib.Core.Bool.{Bool, true, false, cond}
 use mathlib.Core.List.{List, [], _∷_, map}
 use native.Mathlib.Omega.{arith}
 use native.Mathlib.Nat.{not-suc-le-zero, le-of-suc-le-suc}
@@ -19,12 +18,13 @@ use Rattle.meaning.specs.declared.Duration.the-variants.{Whole, Half, Quarter, 
 use Rattle.meaning.specs.declared.Shape.{Shape}
 use Rattle.meaning.specs.declared.Shape.the-variants.{Plain, Dotted, DoubleDotted, Triplet}
 use Rattle.meaning.specs.declared.Meaning.{Meaning}
+use Rattle.logic.specs.Cases.{cases}
 use Rattle.refusals.specs.Numbers.{Outcome}
 use Rattle.command.specs.Others.{tempoOf}
 use Rattle.pair.specs.Pairs.{meaningOf}
 use Rattle.clock.specs.declared.Values.{Values}
 use Rattle.clock.specs.Timing.{Timing, lasts, setsTempo, setsUtl, setsUtv, noTime, timingOf}
-use Rattle.clock.specs.Lengths.{atStart, plainLength, shaped, lengthIn, lengthOf, setBy, valuesAfter}
+use Rattle.clock.specs.Lengths.{atStart, plainLength, shaped, lengthIn, lengthOf, valuesAfter}
 use Rattle.clock.specs.Times.{lengths, sum, timeOf, jiffyOf, numbers, jiffies}
 use Rattle.clock.specs.Settings.{values-are}
 
@@ -78,20 +78,14 @@ pub start-moderate : Moderate atStart
 start-moderate = record { tempo = lit≤ tt; utl = lit≤ tt; utv = lit≤ tt }
 
 tempo-low : (b : ℕ) → b < 256 → tempoOf b ≤ 256
-tempo-low b h = go (eqb b 0)
-  where
-    go : (s : Bool) → cond s 256 b ≤ 256
-    go true = lit≤ tt
-    go false = omega arith
+tempo-low b h = cases (eqb b 0) (λ e. rw e (lit≤ tt)) (λ e. rw e (omega arith))
 
 pub moderate-after : (q : Values) (a b : ℕ) → a < 256 → b < 256 → Moderate q → Moderate (valuesAfter q (meaningOf a b))
-moderate-after q a b ha hb m = rw (values-are q a b ha hb) (go (eqb a 0x06) (eqb a 0x16) (eqb a 0xF6))
-  where
-    go : (s t u : Bool) → Moderate (setBy q (cond s (setsTempo (tempoOf b)) (cond t (setsUtl b) (cond u (setsUtv b) noTime))))
-    go true t u = record { tempo = tempo-low b hb; utl = m .utl; utv = m .utv }
-    go false true u = record { tempo = m .tempo; utl = omega arith; utv = m .utv }
-    go false false true = record { tempo = m .tempo; utl = m .utl; utv = omega arith }
-    go false false false = m
+moderate-after q a b ha hb m =
+    rw (values-are q a b ha hb)
+    (cases (eqb a 0x06) (λ s. rw s (record { tempo = tempo-low b hb; utl = m .utl; utv = m .utv }))
+    (λ s. cases (eqb a 0x16) (λ t. rw (s, t) (record { tempo = m .tempo; utl = omega arith; utv = m .utv }))
+    (λ t. cases (eqb a 0xF6) (λ u. rw (s, t, u) (record { tempo = m .tempo; utl = m .utl; utv = omega arith })) (λ u. rw (s, t, u) m))))
 
 plain-bound : (q : Values) (d : Duration) → Moderate q → plainLength q d ≤ 98304
 plain-bound q Whole m = omega arith

@@ -15,6 +15,7 @@ use lib.ListN.{drop}
 use borrow.Author.Tests.{ne-eqb, eqb-true}
 use Rattle.meaning.specs.declared.Meaning.{Meaning}
 use Rattle.meaning.specs.declared.Meaning.the-variants.{Vdp, Pvd, Pvr, Jif}
+use Rattle.logic.specs.Cases.{cases}
 use Rattle.logic.specs.Every.{every, every-at, same, same-equal}
 use Rattle.refusals.specs.Numbers.{Outcome}
 use Rattle.refusals.specs.Numbers.Outcome.{accepted}
@@ -27,7 +28,7 @@ use Rattle.command.specs.Pair.{commandOutcome}
 use Rattle.pair.specs.Pairs.{meaningOf}
 use Rattle.clock.specs.declared.Values.{Values}
 use Rattle.clock.specs.Timing.{Timing, lasts, setsTempo, setsUtl, setsUtv, noTime, timingOf}
-use Rattle.clock.specs.Lengths.{lengthIn, lengthOf, setBy, valuesAfter}
+use Rattle.clock.specs.Lengths.{lengthOf, setBy, valuesAfter}
 
 abbrev pub settingOf : ℕ → ℕ → Timing
 settingOf a b = cond (eqb a 0x06) (setsTempo (tempoOf b)) (cond (eqb a 0x16) (setsUtl b) (cond (eqb a 0xF6) (setsUtv b) noTime))
@@ -105,10 +106,7 @@ values-are q a b ha hb =
 
 pub length-command : (q : Values) (a b : ℕ) → a < 256 → b < 256 → (a % 4 ≡ 0 → ⊥) → lengthOf q (meaningOf a b) ≡ 0
 unfolding lengthOf
-length-command q a b ha hb p = rw (ne-eqb (a % 4) 0 p, setting-is a b ha hb) (go (eqb a 0x06) (eqb a 0x16) (eqb a 0xF6))
-  where
-    go : (s t u : Bool) → lengthIn q (cond s (setsTempo (tempoOf b)) (cond t (setsUtl b) (cond u (setsUtv b) noTime))) ≡ 0
-    go true t u = refl
-    go false true u = refl
-    go false false true = refl
-    go false false false = refl
+length-command q a b ha hb p =
+    rw (ne-eqb (a % 4) 0 p, setting-is a b ha hb)
+    (cases (eqb a 0x06) (λ s. rw s)
+    (λ s. cases (eqb a 0x16) (λ t. rw (s, t)) (λ t. cases (eqb a 0xF6) (λ u. rw (s, t, u)) (λ u. rw (s, t, u)))))

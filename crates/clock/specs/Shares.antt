@@ -7,12 +7,11 @@
 -- shares-are      the product with the tempo is the length
 use Prim.Native.Nat.{ℕ, _*_, _/_, _%_, _≤_, _<_}
 use mathlib.Core.Path.{_≡_}
-use mathlib.Core.Bool.{Bool, true, false, cond}
+use mathlib.Core.Bool.{cond}
 use native.Mathlib.Omega.{arith}
 use native.Mathlib.Nat.{mul-comm, mul-assoc}
 use lib.Dec.{eqb, leb, leb→le}
-use Rattle.meaning.specs.declared.Duration.the-variants.{Whole, Half, Quarter, Eighth, Sixteenth, ThirtySecond}
-use Rattle.meaning.specs.declared.Shape.the-variants.{Plain, Dotted, DoubleDotted, Triplet}
+use Rattle.logic.specs.Cases.{cases}
 use Rattle.logic.specs.Every.{every-at}
 use Rattle.note.specs.Reading.{shapeOf, valueOf}
 use Rattle.clock.specs.declared.Values.{Values}
@@ -36,27 +35,17 @@ pub shares-low : (a : ℕ) → a < 256 → shares a ≤ 672
 shares-low a h = leb→le (shares a) 672 (every-at (λ k. leb (shares k) 672) 256 tt a h)
 
 plain-share : (q : Values) (code : ℕ) → plainLength q (valueOf code) ≡ 12 * (thirtySeconds code * q .tempo)
-plain-share q code = go (eqb code 2) (eqb code 3) (eqb code 4) (eqb code 5) (eqb code 6)
-  where
-    go : (a b c d e : Bool)
-        → plainLength q (cond a Whole (cond b Half (cond c Quarter (cond d Eighth (cond e Sixteenth ThirtySecond)))))
-        ≡ 12 * (cond a 32 (cond b 16 (cond c 8 (cond d 4 (cond e 2 1)))) * q .tempo)
-    go true b c d e = omega arith
-    go false true c d e = omega arith
-    go false false true d e = omega arith
-    go false false false true e = omega arith
-    go false false false false true = omega arith
-    go false false false false false = omega arith
+plain-share q code =
+    cases (eqb code 2) (λ a. rw a (omega arith))
+    (λ a. cases (eqb code 3) (λ b. rw (a, b) (omega arith))
+    (λ b. cases (eqb code 4) (λ c. rw (a, b, c) (omega arith))
+    (λ c. cases (eqb code 5) (λ d. rw (a, b, c, d) (omega arith))
+    (λ d. cases (eqb code 6) (λ e. rw (a, b, c, d, e) (omega arith)) (λ e. rw (a, b, c, d, e) (omega arith))))))
 
 shaped-share : (bit7 bit5 x : ℕ) → shaped (shapeOf bit7 bit5) (12 * x) ≡ twelfthsOf bit7 bit5 * x
-shaped-share bit7 bit5 x = go (eqb bit7 0) (eqb bit5 0)
-  where
-    go : (s t : Bool)
-        → shaped (cond s (cond t Plain Dotted) (cond t Triplet DoubleDotted)) (12 * x) ≡ cond s (cond t 12 18) (cond t 8 21) * x
-    go true true = omega arith
-    go true false = omega arith
-    go false true = omega arith
-    go false false = omega arith
+shaped-share bit7 bit5 x =
+    cases (eqb bit7 0) (λ s. cases (eqb bit5 0) (λ t. rw (s, t) (omega arith)) (λ t. rw (s, t) (omega arith)))
+    (λ s. cases (eqb bit5 0) (λ t. rw (s, t) (omega arith)) (λ t. rw (s, t) (omega arith)))
 
 pub shares-are : (q : Values) (a : ℕ) → shares a * q .tempo ≡ shaped (shapeOf (a / 128) (a / 32 % 2)) (plainLength q (valueOf (a / 4 % 8)))
 shares-are q a =

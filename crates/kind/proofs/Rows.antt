@@ -3,22 +3,18 @@
 -- ranged-as      behind a first byte whose value has a range, by the second byte
 -- por-event, low-bad   by the first byte alone: low bits 11; low bits 00 and 01
 -- rest-event           low bits 10: every first byte but those that are apart is an event's
-use Prim.Native.Nat.{ℕ, _+_, _*_, _/_, _%_, _<_}
+use Prim.Native.Nat.{ℕ, _%_, _<_}
 use mathlib.Core.Path.{_≡_, refl, sym, _∙_}
 use mathlib.Core.Bool.{Bool, true, false, not, _||_, cond}
 use mathlib.Core.List.{List, [], _∷_}
 use native.Mathlib.Omega.{arith}
 use native.Mathlib.Decide.{ℕ-discrete}
 use lib.Dec.{T, eqb}
-use lib.IntN.{ℤ}
 use borrow.Author.Tests.{eqb-true, ne-eqb, not-true}
 use Rattle.logic.specs.Cases.{cases}
 use Rattle.logic.specs.Every.{every, every-at, true-of}
-use Rattle.meaning.specs.declared.Meaning.the-variants.{Dtn, Por}
-use Rattle.refusals.specs.Numbers.Outcome.{accepted}
 use Rattle.commandtable.specs.Codes.{secondOutcome}
-use Rattle.commandsigns.specs.Signs.{detuningOf}
-use Rattle.command.specs.Others.{single, found, unassigned, joinedOutcome, otherOutcome}
+use Rattle.command.specs.Others.{single, found, joinedOutcome, otherOutcome}
 use Rattle.command.proofs.Firsts.{isOneOf, singles, pulse-as, single-missed, joined-as}
 use Rattle.kind.specs.declared.Kind.the-variants.{Event, Bad}
 use Rattle.kind.specs.Kinds.{kindOf}
@@ -43,12 +39,7 @@ joined-kind a b h p q r =
     let none = not-true (isOneOf singles a) (rw (ne-eqb (a % 16) 6 q, ne-eqb (a % 16) 14 r) at test) in
     let other : otherOutcome a b ≡ joinedOutcome a b = rw (pulse-as a b (found single a b (joinedOutcome a b)) h, ne-eqb (a % 16) 2 p) (single-missed a b (joinedOutcome a b) h none) in
     rw (other, joined-as a b h, ne-eqb (a % 64) 0x1E (λ e. r (omega arith)), ne-eqb (a % 64) 0x3E (λ e. r (omega arith)))
-    (go (eqb (a % 16) 0x0A) (eqb (a % 4) 3) (detuningOf (a / 32 * 256 + b) (a / 16 % 2)) (a / 4 * 256 + b))
-  where
-    go : (s t : Bool) (z : ℤ) (v : ℕ) → kindOf (cond s (accepted (Dtn z)) (cond t (accepted (Por v)) unassigned)) ≡ cond s Event (cond t Event (Bad 27))
-    go true t z v = refl
-    go false true z v = refl
-    go false false z v = refl
+    (cases (eqb (a % 16) 0x0A) (λ s. rw s) (λ s. cases (eqb (a % 4) 3) (λ t. rw (s, t)) (λ t. rw (s, t))))
 
 pub por-event : (a b : ℕ) → a < 256 → a % 4 ≡ 3 → kindOf (otherOutcome a b) ≡ Event
 por-event a b h e =
