@@ -4,11 +4,11 @@
 -- text-number        those of a file whose head is right are above 24
 use Prim.Native.Nat.{ℕ, _≤_, _<_}
 use mathlib.Core.Path.{_≡_, refl, sym, subst}
-use mathlib.Core.Bool.{Bool, true, false, cond}
 use mathlib.Core.List.{List, [], _∷_}
 use native.Mathlib.Omega.{arith}
 use lib.Dec.{lit≤, lit<}
 use lib.ListN.{length}
+use Rattle.logic.specs.Cases.{cases}
 use Rattle.refusals.specs.Numbers.{numberOf}
 use Rattle.refusals.specs.Numbers.Outcome.{accepted, refused}
 use Rattle.refusals.specs.declared.Verdict.{Verdict}
@@ -28,11 +28,10 @@ module _ (P : ℕ → Type 0) where
 
   pub first-each : (ts : List Test) → Each ts → (n : ℕ) → firstOf ts ≡ Failed n → P n
   first-each [] h n e = absurd (let z : _≡_ {A = ℕ} 0 1 = cc in omega arith)
-  first-each (t ∷ ts) h n e = go (t .applies) (first-each ts (h .1) n) e
-    where
-      go : (b : Bool) → (firstOf ts ≡ Failed n → P n) → cond b (Failed (numberOf (t .reason))) (firstOf ts) ≡ Failed n → P n
-      go true later q = let is : numberOf (t .reason) ≡ n = cc in subst P is (h .0)
-      go false later q = later q
+  first-each (t ∷ ts) h n e =
+      cases (t .applies)
+      (λ b. let q = rw b at e in let is : numberOf (t .reason) ≡ n = cc in subst P is (h .0))
+      (λ b. first-each ts (h .1) n (rw b at e))
 
 -- what tests before a value refuse, they refuse with their own number
 guarded-each : {A : Type 0} (P : ℕ → Type 0) (ts : List Test) (a : A) → Each P ts → (n p : ℕ) → guarded (firstOf ts) (accepted a) ≡ refused n p → P n

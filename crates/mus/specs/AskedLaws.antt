@@ -6,11 +6,12 @@
 -- in-song, asked-in-song   so is each voice of a song, and so is the voice that is asked for
 use Prim.Native.Nat.{ℕ, zero, suc, _≤_}
 use mathlib.Core.Path.{_≡_, refl, sym, ap, subst}
-use mathlib.Core.Bool.{Bool, true, false, _||_, cond}
+use mathlib.Core.Bool.{true, false, _||_}
 use mathlib.Core.List.{List, [], _∷_}
 use native.Mathlib.Omega.{arith}
 use lib.Dec.{eqb, ltb}
 use lib.ListN.{length, take, drop}
+use Rattle.logic.specs.Cases.{cases}
 use Rattle.fields.specs.declared.Span.{Span}
 use Rattle.fields.specs.Parts.{partOf}
 use Rattle.refusals.specs.Numbers.Outcome.{accepted, refused}
@@ -87,15 +88,9 @@ in-song f s n e =
     let k = c .0 .container in
     let short = short-file f k in
     subst (λ (x : Song). InSong f (songVoice x n)) (c .1)
-    (go (eqb n 1) (eqb n 2)
-    (span-in f (layoutOf f .voice1) (c .0 .voice1) short (omega (arith, voice1-fits f k .2)))
-    (span-in f (layoutOf f .voice2) (c .0 .voice2) short (omega (arith, voice2-fits f k .2)))
-    (span-in f (layoutOf f .voice3) (c .0 .voice3) short (omega (arith, voice3-fits f k .2))))
-  where
-    go : (a b : Bool) {v1 v2 v3 : Voice} → InSong f v1 → InSong f v2 → InSong f v3 → InSong f (cond a v1 (cond b v2 v3))
-    go true b x y z = x
-    go false true x y z = y
-    go false false x y z = z
+    (cases (eqb n 1) (λ a. rw a (span-in f (layoutOf f .voice1) (c .0 .voice1) short (omega (arith, voice1-fits f k .2))))
+    (λ a. cases (eqb n 2) (λ b. rw (a, b) (span-in f (layoutOf f .voice2) (c .0 .voice2) short (omega (arith, voice2-fits f k .2))))
+    (λ b. rw (a, b) (span-in f (layoutOf f .voice3) (c .0 .voice3) short (omega (arith, voice3-fits f k .2))))))
 
 pub asked-in-song : (f : List ℕ) (n : ℕ) (v : Voice) → voiceAsked f n ≡ accepted v → InSong f v
 asked-in-song f n v e = let a = asked-accepted f n v e in subst (InSong f) (a .voice) (in-song f (a .song) n (a .file))
