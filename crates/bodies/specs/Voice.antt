@@ -1,6 +1,7 @@
 -- Document 01, 'MUS container' and 'Playing a voice': a voice is its stored pairs, and each pair is what it means.
 -- pairs    the pairs of a voice's bytes in stored order, each as its meaning, or 27 or 28
--- pairAt   the pair with a number, counted from 0
+-- bytesAt  the bytes of the pair with a number, counted from 0
+-- pairAt   what that pair means
 -- plainAt  a pair that passes tests which only events pass
 use Prim.Native.Nat.{ℕ, _+_, _*_}
 use mathlib.Core.Bool.{Bool}
@@ -10,11 +11,15 @@ use Rattle.meaning.specs.declared.Meaning.{Meaning}
 use Rattle.refusals.specs.Numbers.{Outcome}
 use Rattle.pair.specs.Pairs.{meaningOf}
 use Rattle.kind.specs.Plain.{isPlain}
+use Rattle.bodies.specs.declared.Bytes.{Bytes}
 
 unfoldable pub pairs : List ℕ → List (Outcome Meaning)
 pairs [] = []
 pairs (a ∷ []) = []
 pairs (a ∷ b ∷ bs) = meaningOf a b ∷ pairs bs
+
+abbrev pub bytesAt : List ℕ → ℕ → Bytes
+bytesAt bs i = record { first = getD bs (2 * i) 0; second = getD bs (2 * i + 1) 0 }
 
 unfoldable pub pairAt : List ℕ → ℕ → Outcome Meaning
 pairAt bs i = meaningOf (getD bs (2 * i) 0) (getD bs (2 * i + 1) 0)

@@ -3,16 +3,34 @@ ghost use mathlib.Core.Path.{_≡_};
 ghost use Prim.Native.Nat.{_+_, _*_, _<_};
 ghost use lib.ListN.{length};
 ghost use Rattle.kind.specs.Kinds.{kindOf, Numbered};
-ghost use Rattle.bodies.specs.Voice.{pairAt, plainAt};
+ghost use Rattle.bodies.specs.Voice.{bytesAt, pairAt, plainAt};
 ghost use Rattle.bodies.specs.Places.{IsPart};
 use kind::Kind;
 
-// internal: what pair number i of a voice's bytes is to the structure. Callers see that the pair is there.
+// The two bytes of a pair.
+pub struct Bytes {
+    pub first: u8,
+    pub second: u8,
+}
+
+// internal: the bytes of pair number i of a voice's bytes. Callers see that the pair is there.
+pub fn bytes_at(voice: &[u8], i: usize) -> Bytes
+    requires { ⌜ 2 * i + 1 < length (now voice) ⌝ }
+    ensures { λ r. ⌜ r ≡ bytesAt (now (voice .entry)) i ⌝ }
+{
+    Bytes {
+        first: voice[2 * i],
+        second: voice[2 * i + 1],
+    }
+}
+
+// internal: what pair number i of a voice's bytes is to the structure.
 pub fn kind_at(voice: &[u8], i: usize) -> Kind
     requires { ⌜ 2 * i + 1 < length (now voice) ⌝ }
     ensures { λ r. ⌜ (r ≡ kindOf (pairAt (now (voice .entry)) i)) × Numbered r ⌝ }
 {
-    kind::kind_of(voice[2 * i], voice[2 * i + 1])
+    let pair = bytes_at(voice, i);
+    kind::kind_of(pair.first, pair.second)
 }
 
 // internal: whether pair number i of a voice's bytes passes tests that only events pass. Loops over pairs ask this first.
@@ -20,12 +38,8 @@ pub fn plain_at(voice: &[u8], i: usize) -> bool
     requires { ⌜ 2 * i + 1 < length (now voice) ⌝ }
     ensures { λ r. ⌜ r ≡ plainAt (now (voice .entry)) i ⌝ }
 {
-    // notes, the commonest, by the first byte alone
-    let first = voice[2 * i];
-    if first % 4 == 0 {
-        return true;
-    }
-    kind::is_plain(first, voice[2 * i + 1])
+    let pair = bytes_at(voice, i);
+    kind::is_plain(pair.first, pair.second)
 }
 
 // What a pair is to the bodies: an event, a HED with its number of passes, a DEF or a CAL with its number, or a TAL or END.

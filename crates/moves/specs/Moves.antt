@@ -6,7 +6,7 @@
 -- top           what is kept of the repeat or call that is innermost
 -- tal, talFrames   behind a TAL: the place, and what is kept
 -- end           the place behind an END
--- placeAfter, framesAfter, startsAfter   behind each pair: the place, what is kept of repeats and calls, and where the bodies of DEFs begin
+-- placeAfter, framesAfter   after each pair: the place, where body is what a CAL goes to, and what is kept of repeats and calls
 use Prim.Native.Nat.{ℕ, _+_, _-_, _*_, _/_, _%_, _<_, _≤_}
 use mathlib.Core.Bool.{_&&_, cond}
 use mathlib.Core.List.{List}
@@ -69,12 +69,12 @@ end p frames =
     (record { at = top p frames / 256 + 1; depth = p .depth - 1 })
     (record { at = p .at + 1; depth = p .depth })
 
-unfoldable pub placeAfter : Move → Place → List ℕ → List ℕ → Place
-placeAfter (Repeat n) p frames starts = record { at = p .at + 1; depth = p .depth + 1 }
-placeAfter (Phrase k) p frames starts = record { at = p .at + 1; depth = p .depth }
-placeAfter (Call k) p frames starts = record { at = getD starts k 0; depth = p .depth + 1 }
-placeAfter Tal p frames starts = tal p frames
-placeAfter End p frames starts = end p frames
+unfoldable pub placeAfter : Move → Place → ℕ → List ℕ → Place
+placeAfter (Repeat n) p body frames = record { at = p .at + 1; depth = p .depth + 1 }
+placeAfter (Phrase k) p body frames = record { at = p .at + 1; depth = p .depth }
+placeAfter (Call k) p body frames = record { at = body; depth = p .depth + 1 }
+placeAfter Tal p body frames = tal p frames
+placeAfter End p body frames = end p frames
 
 unfoldable pub framesAfter : Move → Place → List ℕ → List ℕ
 framesAfter (Repeat n) p frames = set frames (p .depth) (p .at * 256 + n)
@@ -82,10 +82,3 @@ framesAfter (Phrase k) p frames = frames
 framesAfter (Call k) p frames = set frames (p .depth) (p .at * 256 + 0)
 framesAfter Tal p frames = talFrames p frames
 framesAfter End p frames = frames
-
-unfoldable pub startsAfter : Move → Place → List ℕ → List ℕ
-startsAfter (Repeat n) p starts = starts
-startsAfter (Phrase k) p starts = set starts k (p .at + 1)
-startsAfter (Call k) p starts = starts
-startsAfter Tal p starts = starts
-startsAfter End p starts = starts

@@ -1,12 +1,15 @@
-// The pairs of a voice as a walk over it meets them, and where it goes on behind one that is no event, for crates of ours. A repeat in progress is kept as the
-// number of its HED times 256 and the passes that are left, this one included; a call as the number of its CAL times 256.
+// Internal: the pairs of a voice as a walk over it meets them, and where it goes on after one that is no event. A repeat in
+// progress is kept as the number of its HED times 256 and the passes that are left, this one included; a call as the number of
+// its CAL times 256.
 ghost use mathlib.Core.Path.{_≡_};
 ghost use Prim.Native.Nat.{_+_, _*_, _/_, _<_, _≤_};
 ghost use lib.ListN.{length};
 ghost use Rattle.kind.specs.Kinds.{kindOf};
 ghost use Rattle.bodies.specs.Voice.{pairAt};
-ghost use Rattle.moves.specs.Moves.{nextOf, Bounded, Ready, tal, talFrames, end, placeAfter, framesAfter, startsAfter};
+ghost use Rattle.moves.specs.Moves.{nextOf, Bounded, Ready, tal, talFrames, end, placeAfter, framesAfter};
 use kind::Kind;
+
+pub mod noted;
 
 // The pairs that make bodies: HED with its number of passes, DEF and CAL with their numbers, TAL and END.
 pub enum Move {
@@ -64,12 +67,6 @@ fn behind(frame: u32) -> usize
     (frame / 256) as usize + 1
 }
 
-fn wide(n: u16) -> usize
-    ensures { λ r. ⌜ r ≡ n ⌝ }
-{
-    n as usize
-}
-
 // TAL: back behind its HED while passes are left, else on.
 fn close_repeat(place: Place, frames: &mut [u32; 16]) -> Place
     requires { ⌜ (0 < place .depth) × (place .depth ≤ 16) × (place .at < 32768) ⌝ }
@@ -118,10 +115,11 @@ fn close_phrase(place: Place, frames: &[u32; 16]) -> Place
     }
 }
 
-// internal: the place behind a pair that makes bodies. HED and CAL are kept as in progress; DEF tells where its number's body begins, for the CALs behind it.
-pub fn go_on(m: Move, place: Place, frames: &mut [u32; 16], starts: &mut [u16; 24]) -> Place
+// internal: the place after a pair that makes bodies. HED and CAL are kept as in progress. body is where the body that a CAL
+// stands for begins; no other pair asks for it.
+pub fn go_on(m: Move, place: Place, body: usize, frames: &mut [u32; 16]) -> Place
     requires { ⌜ Ready m place ⌝ }
-    ensures { λ r. ⌜ (r ≡ placeAfter m place (now (frames .entry)) (now (starts .entry))) × (now (frames .exit) ≡ framesAfter m place (now (frames .entry))) × (now (starts .exit) ≡ startsAfter m place (now (starts .entry))) ⌝ }
+    ensures { λ r. ⌜ (r ≡ placeAfter m place body (now (frames .entry))) × (now (frames .exit) ≡ framesAfter m place (now (frames .entry))) ⌝ }
 {
     let at = place.at;
     let depth = place.depth;
@@ -133,14 +131,11 @@ pub fn go_on(m: Move, place: Place, frames: &mut [u32; 16], starts: &mut [u16; 2
                 depth: depth + 1,
             }
         }
-        Move::Phrase(k) => {
-            starts[wide(k)] = (at + 1) as u16;
-            Place { at: at + 1, depth }
-        }
-        Move::Call(k) => {
+        Move::Phrase(_) => Place { at: at + 1, depth },
+        Move::Call(_) => {
             frames[depth] = kept(at, 0);
             Place {
-                at: wide(starts[wide(k)]),
+                at: body,
                 depth: depth + 1,
             }
         }

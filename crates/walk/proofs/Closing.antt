@@ -3,7 +3,7 @@
 -- top-repeat    outside calls the innermost that is kept is a repeat
 -- tal-step      TAL: one pass more, or on behind it
 -- end-step      END: on behind it where the DEF stands, or behind the CAL
-use Prim.Native.Nat.{ℕ, _+_, _-_, _*_, _/_, _%_, _<_, _≤_, max}
+use Prim.Native.Nat.{ℕ, _+_, _-_, _*_, _/_, _%_, _<_}
 use mathlib.Core.Path.{_≡_, refl, ap, _∙_, subst}
 use mathlib.Core.Bool.{false}
 use mathlib.Core.List.{List, _∷_, _++_, append-assoc}
@@ -12,16 +12,14 @@ use native.Mathlib.Omega.{arith}
 use borrow.Author.Tests.{lt-ltb, le-ltb, ne-eqb}
 use lib.ListN.{length, getD, set, length-set}
 use lib.Seq.{getD-set-same}
-use Rattle.kind.specs.declared.Kind.the-variants.{Tal, End}
-use Rattle.kind.specs.Kinds.{kindOf}
-use Rattle.bodies.specs.Voice.{pairs, pairAt}
+use Rattle.bodies.specs.Voice.{pairs}
 use Rattle.bodies.specs.Bodies.{Event, Closer, byTal, byEnd, byStop, Body, done, outer}
 use Rattle.bodies.specs.Playing.{interpret, copies}
 use Rattle.bodies.specs.Places.{openAt, bodyAt}
 use Rattle.moves.specs.declared.Place.{Place}
 use Rattle.moves.specs.Moves.{tal, talFrames, end}
-use Rattle.walk.proofs.Contexts.{Context, outermost, repeating, standing, calling, height, inCall, Fair, Kept, Passed, eventsIn, pairsIn, later, toWalk, Here, Around, Noted, Walking}
-use Rattle.walk.proofs.Steps.{kept-over, passed-more, copies-more, times-more, opened, noted-same}
+use Rattle.walk.proofs.Contexts.{Context, outermost, repeating, standing, calling, height, inCall, Fair, Kept, Passed, eventsIn, pairsIn, later, toWalk, Here, Around, Onward, Walking, Stepped}
+use Rattle.walk.proofs.Steps.{kept-over, copies-more, times-more, opened}
 
 abbrev pub closerCode : Closer → ℕ
 closerCode byTal = 0
@@ -44,107 +42,116 @@ module _ (bs : List ℕ) where
   top-repeat frames (standing c) around u s k a = top-repeat frames c (outer around) u s k (a .2)
   top-repeat frames (calling p c) around u s k a = absurd (let z : _≡_ {A = ℕ} 0 1 = cc in omega arith)
 
-module _ (bs : List ℕ) (at depth : ℕ) (frames starts : List ℕ) (left : ℕ) (es : List Event) (w : Walking bs at depth frames starts left es) where
+module _ (bs : List ℕ) (at depth : ℕ) (frames : List ℕ) (left : ℕ) (es : List Event) (w : Walking bs at depth frames left es) where
   abbrev next : List Body
   next = openAt (pairs bs) (at + 1)
 
   abbrev place : Place
   place = record { at = at; depth = depth }
 
-  abbrev far′ : ℕ
-  far′ = max (w .far) (at + 1)
+  -- what holds at a pair that closes a body, by its closer
+  record Shuts (d : Closer) (c : Context) : Type 0 where
+    here : Here bs (done d) c
+    around : Around bs next c
+    kept : Kept frames c
+    deep : depth ≡ height c
+    steps : left ≡ pairsIn bs (done d) + toWalk bs next c
+    events : es ≡ eventsIn bs (done d) ++ later bs next c
 
-  -- the walk goes on behind this pair, or at one walked before
-  goes-on : (at′ depth′ : ℕ) (frames′ : List ℕ) (c : Context) → Noted bs far′ starts → at′ ≤ far′ → Here bs (bodyAt (pairs bs) at′) c → Around bs (outer (openAt (pairs bs) at′)) c → Kept frames′ c
-      → depth′ ≡ height c → Passed (w .far) c → length frames′ ≡ 16 → left ≡ 1 + (pairsIn bs (bodyAt (pairs bs) at′) + toWalk bs (outer (openAt (pairs bs) at′)) c)
-      → es ≡ eventsIn bs (bodyAt (pairs bs) at′) ++ later bs (outer (openAt (pairs bs) at′)) c → Walking bs at′ depth′ frames′ starts (left - 1) es
-  goes-on at′ depth′ frames′ c noted reached here around kept deep passed size steps events =
+  shuts : (d : Closer) → openAt (pairs bs) at ≡ done d ∷ next → Shuts d (w .context)
+  shuts d q =
+      let o = opened bs at (done d) next q in
       record {
-        context = c;
-        far = far′;
-        here = here;
-        around = around;
-        kept = kept;
-        deep = deep;
-        reached = reached;
-        passed = passed-more (w .far) far′ c (omega arith) passed;
-        noted = noted;
-        frames-size = size;
-        starts-size = w .starts-size;
-        steps = omega arith;
-        events = events;
+        here = subst (λ (b : Body). Here bs b (w .context)) (o .0) (w .here);
+        around = subst (λ (l : List Body). Around bs l (w .context)) (o .1) (w .around);
+        kept = w .kept;
+        deep = w .deep;
+        steps = w .steps ∙ rw (o .0, o .1);
+        events = w .events ∙ rw (o .0, o .1);
+      }
+
+  -- the walk goes on after this pair, or at one walked before
+  goes-on : (body at′ depth′ : ℕ) (frames′ : List ℕ) (c c′ : Context) → Onward at body c at′ c′ → Here bs (bodyAt (pairs bs) at′) c′ → Around bs (outer (openAt (pairs bs) at′)) c′ → Kept frames′ c′
+      → depth′ ≡ height c′ → length frames′ ≡ 16 → left ≡ 1 + (pairsIn bs (bodyAt (pairs bs) at′) + toWalk bs (outer (openAt (pairs bs) at′)) c′)
+      → es ≡ eventsIn bs (bodyAt (pairs bs) at′) ++ later bs (outer (openAt (pairs bs) at′)) c′ → Stepped bs at body c at′ depth′ frames′ (left - 1) es
+  goes-on body at′ depth′ frames′ c c′ onward here around kept deep size steps events =
+      record {
+        walking = record {
+          context = c′;
+          here = here;
+          around = around;
+          kept = kept;
+          deep = deep;
+          frames-size = size;
+          steps = omega arith;
+          events = events;
+        };
+        onward = onward;
       }
 
   -- TAL closes a repeat
-  tal-in : Noted bs far′ starts → (c : Context) → Here bs (done byTal) c → Around bs next c → Kept frames c → depth ≡ height c → Passed (w .far) c
-      → left ≡ pairsIn bs (done byTal) + toWalk bs next c → es ≡ eventsIn bs (done byTal) ++ later bs next c
-      → Walking bs (tal place frames .at) (tal place frames .depth) (talFrames place frames) starts (left - 1) es
+  tal-in : (body : ℕ) (c : Context) → Shuts byTal c → Stepped bs at body c (tal place frames .at) (tal place frames .depth) (talFrames place frames) (left - 1) es
   unfolding Fair Around Kept Passed later toWalk interpret bodyAt copies
-  tal-in noted outermost h a k d p s e = absurd (let z : _≡_ {A = ℕ} 2 0 = differ (h .fair) in omega arith)
-  tal-in noted (repeating q l c) h a k d p s e = go (decLt 1 l)
+  tal-in body outermost s = absurd (let z : _≡_ {A = ℕ} 2 0 = differ (s .here .fair) in omega arith)
+  tal-in body (repeating q l c) s = go (decLt 1 l)
     where
       level : depth - 1 ≡ height c
-      level = omega arith
+      level = omega (arith, s .deep)
 
       frame : getD frames (depth - 1) 0 ≡ q * 256 + l
-      frame = rw level (k .0)
+      frame = rw level (s .kept .0)
 
       again : Here bs (bodyAt (pairs bs) (q + 1)) (repeating q (l - 1) c)
-      again = record { fair = a .3 .fair; low = a .3 .low }
+      again = record { fair = s .around .3 .fair; low = s .around .3 .low }
 
-      go : Dec (1 < l) → Walking bs (tal place frames .at) (tal place frames .depth) (talFrames place frames) starts (left - 1) es
+      go : Dec (1 < l) → Stepped bs at body (repeating q l c) (tal place frames .at) (tal place frames .depth) (talFrames place frames) (left - 1) es
       go (yes m) =
+          let a = s .around in
           rw (frame, frame-left q l (a .1) .0, frame-left q l (a .1) .1, lt-ltb 1 l m)
-          (goes-on (q + 1) depth (set frames (depth - 1) (q * 256 + l - 1)) (repeating q (l - 1) c) noted (omega (arith, p .0)) again
+          (goes-on body (q + 1) depth (set frames (depth - 1) (q * 256 + l - 1)) (repeating q l c) (repeating q (l - 1) c) (λ far b n p. (omega (arith, p .0), p)) again
           (rw (a .2) (omega arith, omega (arith, a .1), refl, again, a .4, a .5))
-          (rw level (getD-set-same frames (height c) (q * 256 + l - 1) 0 (omega (arith, h .low, w .frames-size)) ∙ omega arith), kept-over frames c (depth - 1) (q * 256 + l - 1) (omega arith) (k .1))
-          d p (length-set frames (depth - 1) (q * 256 + l - 1) ∙ w .frames-size)
-          (rw (a .2) (omega (arith, times-more (l - 1) (pairsIn bs (bodyAt (pairs bs) (q + 1)) + 1) (omega arith))))
-          (rw (a .2) (e ∙ rw (copies-more (l - 1) (eventsIn bs (bodyAt (pairs bs) (q + 1))) (omega arith)) (simp append-assoc))))
+          (rw level (getD-set-same frames (height c) (q * 256 + l - 1) 0 (omega (arith, s .here .low, w .frames-size)) ∙ omega arith), kept-over frames c (depth - 1) (q * 256 + l - 1) (omega (arith, s .deep)) (s .kept .1))
+          (s .deep) (length-set frames (depth - 1) (q * 256 + l - 1) ∙ w .frames-size)
+          (rw (a .2) (omega (arith, s .steps, times-more (l - 1) (pairsIn bs (bodyAt (pairs bs) (q + 1)) + 1) (omega arith))))
+          (rw (a .2) (s .events ∙ rw (copies-more (l - 1) (eventsIn bs (bodyAt (pairs bs) (q + 1))) (omega arith)) (simp append-assoc))))
       go (no m) =
+          let a = s .around in
           let one : l ≡ 1 = omega (arith, a .0) in
           rw (frame, frame-left q l (a .1) .0, le-ltb 1 l (omega arith))
-          (goes-on (at + 1) (depth - 1) frames c noted (omega arith) (a .4) (a .5) (k .1) (omega arith) (p .1) (w .frames-size)
-          (s ∙ rw one (omega arith))
-          (e ∙ rw one))
-  tal-in noted (standing c) h a k d p s e = absurd (let z : _≡_ {A = ℕ} 1 0 = differ (h .fair) in omega arith)
-  tal-in noted (calling q c) h a k d p s e = absurd (let z : _≡_ {A = ℕ} 1 0 = differ (h .fair) in omega arith)
+          (goes-on body (at + 1) (depth - 1) frames (repeating q l c) c (λ far b n p. (omega arith, p .1)) (a .4) (a .5) (s .kept .1) level (w .frames-size)
+          (s .steps ∙ rw one (omega arith))
+          (s .events ∙ rw one))
+  tal-in body (standing c) s = absurd (let z : _≡_ {A = ℕ} 1 0 = differ (s .here .fair) in omega arith)
+  tal-in body (calling q c) s = absurd (let z : _≡_ {A = ℕ} 1 0 = differ (s .here .fair) in omega arith)
 
-  pub tal-step : kindOf (pairAt bs at) ≡ Tal → openAt (pairs bs) at ≡ done byTal ∷ next
-      → Walking bs (tal place frames .at) (tal place frames .depth) (talFrames place frames) starts (left - 1) es
-  tal-step e q =
-      let o = opened bs at (done byTal) next q in
-      tal-in (noted-same bs at depth frames starts left es w Tal e (λ k d. absurd (let z : _≡_ {A = ℕ} 0 1 = cc in omega arith))) (w .context)
-      (subst (λ (b : Body). Here bs b (w .context)) (o .0) (w .here)) (subst (λ (l : List Body). Around bs l (w .context)) (o .1) (w .around)) (w .kept) (w .deep) (w .passed)
-      (w .steps ∙ rw (o .0, o .1)) (w .events ∙ rw (o .0, o .1))
+  pub tal-step : openAt (pairs bs) at ≡ done byTal ∷ next → (body : ℕ)
+      → Stepped bs at body (w .context) (tal place frames .at) (tal place frames .depth) (talFrames place frames) (left - 1) es
+  tal-step q body = tal-in body (w .context) (shuts byTal q)
 
   -- END closes a DEF where it stands, or a call
-  end-in : Noted bs far′ starts → (c : Context) → Here bs (done byEnd) c → Around bs next c → Kept frames c → depth ≡ height c → Passed (w .far) c
-      → left ≡ pairsIn bs (done byEnd) + toWalk bs next c → es ≡ eventsIn bs (done byEnd) ++ later bs next c
-      → Walking bs (end place frames .at) (end place frames .depth) frames starts (left - 1) es
+  end-in : (body : ℕ) (c : Context) → Shuts byEnd c → Stepped bs at body c (end place frames .at) (end place frames .depth) frames (left - 1) es
   unfolding Fair Around Kept Passed later toWalk interpret bodyAt
-  end-in noted outermost h a k d p s e = absurd (let z : _≡_ {A = ℕ} 2 1 = differ (h .fair) in omega arith)
-  end-in noted (repeating q l c) h a k d p s e = absurd (let z : _≡_ {A = ℕ} 0 1 = differ (h .fair) in omega arith)
-  end-in noted (standing c) h a k d p s e = go (decLt 0 (height c))
+  end-in body outermost s = absurd (let z : _≡_ {A = ℕ} 2 1 = differ (s .here .fair) in omega arith)
+  end-in body (repeating q l c) s = absurd (let z : _≡_ {A = ℕ} 0 1 = differ (s .here .fair) in omega arith)
+  end-in body (standing c) s = go (decLt 0 (height c))
     where
-      on : Walking bs (at + 1) depth frames starts (left - 1) es
-      on = goes-on (at + 1) depth frames c noted (omega arith) (a .1) (a .2) k d p (w .frames-size) (omega arith) e
+      on : Stepped bs at body (standing c) (at + 1) depth frames (left - 1) es
+      on =
+          goes-on body (at + 1) depth frames (standing c) c (λ far l b p. (omega arith, p)) (s .around .1) (s .around .2) (s .kept) (s .deep) (w .frames-size)
+          (omega (arith, s .steps)) (s .events)
 
-      go : Dec (0 < height c) → Walking bs (end place frames .at) (end place frames .depth) frames starts (left - 1) es
+      go : Dec (0 < height c) → Stepped bs at body (standing c) (end place frames .at) (end place frames .depth) frames (left - 1) es
       go (yes m) =
-          let t : 0 < getD frames (depth - 1) 0 % 256 = rw d (top-repeat bs frames c (outer next) (a .0) m k (a .2)) in
-          rw (lt-ltb 0 depth (omega arith), ne-eqb (getD frames (depth - 1) 0 % 256) 0 (λ x. absurd (let z : ⊥ = omega arith in z))) on
-      go (no m) = rw (le-ltb 0 depth (omega arith)) on
-  end-in noted (calling q c) h a k d p s e =
-      let level : depth - 1 ≡ height c = omega arith in
-      let frame : getD frames (depth - 1) 0 ≡ q * 256 + 0 = rw level (k .0) in
-      rw (lt-ltb 0 depth (omega arith), frame, frame-left q 0 (omega arith) .0, frame-left q 0 (omega arith) .1)
-      (goes-on (q + 1) (depth - 1) frames c noted (omega (arith, p .0)) (a .0) (a .1) (k .1) level (p .1) (w .frames-size) (omega arith) e)
+          let t : 0 < getD frames (depth - 1) 0 % 256 = rw (s .deep) (top-repeat bs frames c (outer next) (s .around .0) m (s .kept) (s .around .2)) in
+          rw (lt-ltb 0 depth (omega (arith, s .deep)), ne-eqb (getD frames (depth - 1) 0 % 256) 0 (λ x. absurd (let z : ⊥ = omega arith in z))) on
+      go (no m) = rw (le-ltb 0 depth (omega (arith, s .deep))) on
+  end-in body (calling q c) s =
+      let level : depth - 1 ≡ height c = omega (arith, s .deep) in
+      let frame : getD frames (depth - 1) 0 ≡ q * 256 + 0 = rw level (s .kept .0) in
+      rw (lt-ltb 0 depth (omega (arith, s .deep)), frame, frame-left q 0 (omega arith) .0, frame-left q 0 (omega arith) .1)
+      (goes-on body (q + 1) (depth - 1) frames (calling q c) c (λ far l b p. (omega (arith, p .0), p .1)) (s .around .0) (s .around .1) (s .kept .1) level (w .frames-size)
+      (omega (arith, s .steps)) (s .events))
 
-  pub end-step : kindOf (pairAt bs at) ≡ End → openAt (pairs bs) at ≡ done byEnd ∷ next
-      → Walking bs (end place frames .at) (end place frames .depth) frames starts (left - 1) es
-  end-step e q =
-      let o = opened bs at (done byEnd) next q in
-      end-in (noted-same bs at depth frames starts left es w End e (λ k d. absurd (let z : _≡_ {A = ℕ} 0 1 = cc in omega arith))) (w .context)
-      (subst (λ (b : Body). Here bs b (w .context)) (o .0) (w .here)) (subst (λ (l : List Body). Around bs l (w .context)) (o .1) (w .around)) (w .kept) (w .deep) (w .passed)
-      (w .steps ∙ rw (o .0, o .1)) (w .events ∙ rw (o .0, o .1))
+  pub end-step : openAt (pairs bs) at ≡ done byEnd ∷ next → (body : ℕ)
+      → Stepped bs at body (w .context) (end place frames .at) (end place frames .depth) frames (left - 1) es
+  end-step q body = end-in body (w .context) (shuts byEnd q)

@@ -9,21 +9,24 @@
 -- later, toWalk      the events and the pairs behind the body that is being walked, by the bodies that are open around it
 -- Here, Around       the body that is being walked, and those around it, fit their context
 -- Kept               the walk keeps the context
+-- Passed             each HED and CAL in progress stands before pair far
+-- Onward             a step that goes no further than the pair after this one, or to the body that a CAL is given
 -- Stands, Start      a body that CAL k stands for, and the pair where such a body begins
--- Passed, Noted      pairs up to far have been walked, and where their DEFs' bodies begin is noted
+-- Goes               a CAL is given such a pair; how it was found is not said here
 -- Walking            all this at one pair of a walk, where the events es are still to come
-use Prim.Native.Nat.{ℕ, _+_, _-_, _*_, _/_, _<_, _≤_}
+-- Stepped            the same after a step
+use Prim.Native.Nat.{ℕ, _+_, _-_, _*_, _<_, _≤_}
 use mathlib.Core.Path.{_≡_, refl}
 use mathlib.Core.Bool.{Bool, true, false}
 use mathlib.Core.List.{List, [], _++_}
 use lib.ListN.{length, getD}
-use Rattle.kind.specs.declared.Kind.the-variants.{Def}
-use Rattle.kind.specs.Kinds.{kindOf}
-use Rattle.bodies.specs.Voice.{pairs, pairAt}
+use Rattle.bodies.specs.Voice.{pairs}
 use Rattle.bodies.specs.Bodies.{Event, Closer, byTal, byEnd, byStop, Body, done, event, repeat, phrase, call, inner, outer}
 use Rattle.bodies.specs.Playing.{interpret, phrasesOf, copies, playing, walking, nesting}
 use Rattle.bodies.specs.Order.{Flat, Shut}
 use Rattle.bodies.specs.Places.{openAt, bodyAt}
+use Rattle.moves.specs.declared.Move.{Move}
+use Rattle.moves.specs.declared.Move.the-variants.{Repeat, Phrase, Call, Tal, End}
 
 pub data Context : Type 0 where
   outermost : Context
@@ -84,6 +87,9 @@ Passed far (repeating h l c) = (h < far) × Passed far c
 Passed far (standing c) = Passed far c
 Passed far (calling p c) = (p < far) × Passed far c
 
+abbrev pub Onward : ℕ → ℕ → Context → ℕ → Context → Type 0
+Onward at body c at′ c′ = (far : ℕ) → at < far → body ≤ far → Passed far c → (at′ ≤ far) × Passed far c′
+
 module _ (bs : List ℕ) where
   abbrev pub eventsIn : Body → List Event
   eventsIn b = interpret playing (phrasesOf playing (pairs bs)) b
@@ -131,23 +137,24 @@ module _ (bs : List ℕ) where
   abbrev pub Start : ℕ → ℕ → Type 0
   Start k p = Stands k (bodyAt (pairs bs) p)
 
-  abbrev pub IsDef : ℕ → ℕ → Type 0
-  IsDef h k = kindOf (pairAt bs h) ≡ Def k
+  -- what a move may count on besides its place: where a CAL goes, the body that it stands for begins
+  abbrev pub Goes : Move → ℕ → Type 0
+  Goes (Repeat n) body = Unit
+  Goes (Phrase k) body = Unit
+  Goes (Call k) body = Start k body
+  Goes Tal body = Unit
+  Goes End body = Unit
 
-  abbrev pub Noted : ℕ → List ℕ → Type 0
-  Noted far starts = (h k : ℕ) → h < far → h < length bs / 2 → IsDef h k → (getD starts k 0 ≤ far) × Start k (getD starts k 0)
-
-  pub record Walking (at depth : ℕ) (frames starts : List ℕ) (left : ℕ) (es : List Event) : Type 0 where
+  pub record Walking (at depth : ℕ) (frames : List ℕ) (left : ℕ) (es : List Event) : Type 0 where
     pub context : Context
-    pub far : ℕ
     pub here : Here (bodyAt (pairs bs) at) context
     pub around : Around (outer (openAt (pairs bs) at)) context
     pub kept : Kept frames context
     pub deep : depth ≡ height context
-    pub reached : at ≤ far
-    pub passed : Passed far context
-    pub noted : Noted far starts
     pub frames-size : length frames ≡ 16
-    pub starts-size : length starts ≡ 24
     pub steps : left ≡ pairsIn (bodyAt (pairs bs) at) + toWalk (outer (openAt (pairs bs) at)) context
     pub events : es ≡ eventsIn (bodyAt (pairs bs) at) ++ later (outer (openAt (pairs bs) at)) context
+
+  pub record Stepped (at body : ℕ) (c : Context) (at′ depth′ : ℕ) (frames′ : List ℕ) (left′ : ℕ) (es′ : List Event) : Type 0 where
+    pub walking : Walking at′ depth′ frames′ left′ es′
+    pub onward : Onward at body c at′ (walking .context)

@@ -1,4 +1,5 @@
 -- What acceptance has shown of a voice, pair by pair, as a walk meets it.
+-- IsDef       pair h is DEF k
 -- Facts       HED plays its body at least once; CAL has its DEF before it; CAL k stands for the body behind DEF k
 -- facts       so of each voice that none of 27 to 33 refuses
 use Prim.Native.Nat.{ℕ, zero, suc, _+_, _/_, _<_, _≤_}
@@ -26,12 +27,15 @@ use Rattle.structure.specs.Tests.{Opener, byHed, byDef, Nesting, nestingTests, 
 use Rattle.structure.specs.Findings.{nestingsTests, AllNone}
 use Rattle.mus.specs.Laws.{Passes}
 use Rattle.mus.proofs.Accepted.{accepted-sound}
-use Rattle.walk.proofs.Contexts.{Stands, Start, IsDef, flat-fair}
+use Rattle.walk.proofs.Contexts.{Stands, Start, flat-fair}
 
 module _ (bs : List ℕ) where
+  abbrev pub IsDef : ℕ → ℕ → Type 0
+  IsDef h k = kindOf (pairAt bs h) ≡ Def k
+
   -- a DEF with the number k stands before pair i
   abbrev pub Before : ℕ → ℕ → Type 0
-  Before i k = (h : ℕ) × (h < i) × IsDef bs h k
+  Before i k = (h : ℕ) × (h < i) × IsDef h k
 
   before-more : (i k : ℕ) → Before i k → Before (i + 1) k
   before-more i k b = (b .0, omega (arith, b .1), b .2)

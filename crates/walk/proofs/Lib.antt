@@ -3,4 +3,5 @@ pub mod Steps
 pub mod Closing
 pub mod Facts
 pub mod Walks
+pub mod Noted
 pub mod Listings

@@ -1,11 +1,12 @@
 -- A walk from its first pair on: all events of the played-out voice are still to come; each pair leaves one less to walk, an event one less to play.
--- walk-start      before the first pair
+-- kindIn, move-kind   a move by the pair that makes it
+-- walk-start      before the first pair, with nothing in progress
 -- few-later       no more events are to come than pairs are to be walked
 -- walk-some       where an event is still to come, a pair comes next
 -- walk-event      an event goes by
--- walk-ready, walk-move   any other pair: what its move may count on, and where the walk goes on
+-- walk-ready, walk-move   any other pair: what its move may count on, and where the walk goes on, a CAL at the body that it is given
 use Prim.Native.Nat.{ℕ, _+_, _-_, _/_, _<_, _≤_}
-use mathlib.Core.Path.{_≡_, refl, sym, ap, _∙_, subst}
+use mathlib.Core.Path.{_≡_, refl, sym, ap, _∙_}
 use mathlib.Core.List.{List, [], _∷_, _++_, append-nil}
 use native.Mathlib.Decide.{decLt}
 use native.Mathlib.Omega.{arith}
@@ -28,32 +29,56 @@ use Rattle.moves.specs.declared.Move.{Move}
 use Rattle.moves.specs.declared.Move.the-variants.{Repeat, Phrase, Call, Tal, End}
 use Rattle.moves.specs.declared.Next.the-variants.{Event, Structure}
 use Rattle.moves.specs.declared.Place.{Place}
-use Rattle.moves.specs.Moves.{nextOf, BoundedMove, Room, Ready, placeAfter, framesAfter, startsAfter}
-use Rattle.walk.proofs.Contexts.{Context, outermost, repeating, standing, calling, height, closerOf, Fair, shut-fair, Kept, Passed, eventsIn, pairsIn, later, toWalk, Around, Walking}
+use Rattle.moves.specs.Moves.{nextOf, BoundedMove, Room, Ready, placeAfter, framesAfter}
+use Rattle.walk.proofs.Contexts.{Context, outermost, repeating, standing, calling, height, closerOf, Fair, shut-fair, Kept, Passed, eventsIn, pairsIn, later, toWalk, Around, Goes, Walking, Stepped}
 use Rattle.walk.proofs.Facts.{Facts}
 use Rattle.walk.proofs.Steps.{event-step, repeat-step, phrase-step, call-step, opened}
 use Rattle.walk.proofs.Closing.{differ, tal-step, end-step}
 
+-- the kind of the pair that makes a move
+abbrev pub kindIn : Move → Kind
+kindIn (Repeat n) = Kind.Hed n
+kindIn (Phrase k) = Kind.Def k
+kindIn (Call k) = Kind.Cal k
+kindIn Tal = Kind.Tal
+kindIn End = Kind.End
+
+pub move-kind : (z : Kind) (m : Move) → nextOf z ≡ Structure m → z ≡ kindIn m
+move-kind z m e = go z e
+  where
+    no-event : Event ≡ Structure m → ⊥
+    no-event q = let z : _≡_ {A = ℕ} 0 1 = cc in omega arith
+
+    by : (x : Move) → Structure x ≡ Structure m → kindIn x ≡ kindIn m
+    by x q = let same : x ≡ m = cc in ap kindIn same
+
+    go : (z : Kind) → nextOf z ≡ Structure m → z ≡ kindIn m
+    go Kind.Event q = absurd (no-event q)
+    go (Kind.Hed n) q = by (Repeat n) q
+    go Kind.Tal q = by Tal q
+    go (Kind.Def k) q = by (Phrase k) q
+    go Kind.End q = by End q
+    go (Kind.Cal k) q = by (Call k) q
+    go Kind.Hlt q = absurd (no-event q)
+    go (Kind.Bad n) q = absurd (no-event q)
+
 module _ (bs : List ℕ) where
-  pub walk-start : (left : ℕ) → Passes (pairs bs) → left ≡ walkedOf (pairs bs) → Walking bs 0 0 (blank 16) (blank 24) left (played (pairs bs))
+  pub walk-start : (left : ℕ) → Passes (pairs bs) → left ≡ walkedOf (pairs bs) → (w : Walking bs 0 0 (blank 16) left (played (pairs bs))) × Passed 0 (w .context)
   unfolding Around Kept Passed later toWalk played walkedOf depthOf openAt bodyAt bodyOf
   walk-start left p e =
-      let s = accepted-sound (pairs bs) p in
-      record {
-        context = outermost;
-        far = 0;
-        here = record { fair = shut-fair byStop (bodyOf (pairs bs)) (s .shut); low = omega (arith, ltb-false 16 (depthOf (pairs bs)) (p .limits .0)) };
-        around = tt;
-        kept = tt;
-        deep = refl;
-        reached = omega arith;
-        passed = tt;
-        noted = λ h k l i d. absurd (let z : ⊥ = omega arith in z);
-        frames-size = refl;
-        starts-size = refl;
-        steps = e ∙ omega arith;
-        events = sym (append-nil _);
-      }
+      let s = accepted-sound (pairs bs) p in (
+        record {
+          context = outermost;
+          here = record { fair = shut-fair byStop (bodyOf (pairs bs)) (s .shut); low = omega (arith, ltb-false 16 (depthOf (pairs bs)) (p .limits .0)) };
+          around = tt;
+          kept = tt;
+          deep = refl;
+          frames-size = refl;
+          steps = e ∙ omega arith;
+          events = sym (append-nil _);
+        },
+        tt,
+      )
 
   few-events : (b : Body) → length (eventsIn bs b) ≤ pairsIn bs b
   few-events b =
@@ -75,7 +100,7 @@ module _ (bs : List ℕ) where
       let o = outer (openAt (pairs bs) (p + 1)) in
       omega (arith, length-append (eventsIn bs b) (later bs o c), few-events b, few-later o c)
 
-  module _ (at depth : ℕ) (frames starts : List ℕ) (left : ℕ) (es : List bodies.Event) (w : Walking bs at depth frames starts left es) where
+  module _ (at depth : ℕ) (frames : List ℕ) (left : ℕ) (es : List bodies.Event) (w : Walking bs at depth frames left es) where
     pub walk-few : length es ≤ left
     walk-few =
         let b = bodyAt (pairs bs) at in
@@ -105,31 +130,25 @@ module _ (bs : List ℕ) where
         go (no p) = absurd (let z : length es ≡ 0 = ap length (none-left (omega arith)) in omega arith)
 
     pub walk-event : at < length bs / 2 → nextOf (kindOf (pairAt bs at)) ≡ Event
-        → (rest : List bodies.Event) × (es ≡ eventAt at (pairAt bs at) ∷ rest) × Walking bs (at + 1) depth frames starts (left - 1) rest
+        → (rest : List bodies.Event) × (es ≡ eventAt at (pairAt bs at) ∷ rest) × Stepped bs at 0 (w .context) (at + 1) depth frames (left - 1) rest
     walk-event i e = go (kindOf (pairAt bs at)) refl e
       where
         other : {m : Move} → Structure m ≡ Event → ⊥
         other q = let z : _≡_ {A = ℕ} 0 1 = cc in omega arith
 
         go : (z : Kind) → kindOf (pairAt bs at) ≡ z → nextOf z ≡ Event
-            → (rest : List bodies.Event) × (es ≡ eventAt at (pairAt bs at) ∷ rest) × Walking bs (at + 1) depth frames starts (left - 1) rest
-        go Kind.Event q n = event-step bs at depth frames starts left es w Kind.Event _ q (λ k d. absurd (let z : _≡_ {A = ℕ} 0 1 = cc in omega arith)) (event-at bs at i q)
+            → (rest : List bodies.Event) × (es ≡ eventAt at (pairAt bs at) ∷ rest) × Stepped bs at 0 (w .context) (at + 1) depth frames (left - 1) rest
+        go Kind.Event q n = event-step bs at depth frames left es w _ (event-at bs at i q)
         go (Kind.Hed k) q n = absurd (other n)
         go Kind.Tal q n = absurd (other n)
         go (Kind.Def k) q n = absurd (other n)
         go Kind.End q n = absurd (other n)
         go (Kind.Cal k) q n = absurd (other n)
-        go Kind.Hlt q n = event-step bs at depth frames starts left es w Kind.Hlt _ q (λ k d. absurd (let z : _≡_ {A = ℕ} 0 1 = cc in omega arith)) (hlt-at bs at i q)
-        go (Kind.Bad b) q n = event-step bs at depth frames starts left es w (Kind.Bad b) _ q (λ k d. absurd (let z : _≡_ {A = ℕ} 0 1 = cc in omega arith)) (bad-at bs at i b q)
+        go Kind.Hlt q n = event-step bs at depth frames left es w _ (hlt-at bs at i q)
+        go (Kind.Bad b) q n = event-step bs at depth frames left es w _ (bad-at bs at i b q)
 
     abbrev place : Place
     place = record { at = at; depth = depth }
-
-    -- a move that its place allows, and where the walk goes on
-    abbrev Moves : Move → Type 0
-    Moves m =
-        Room m depth
-        × Walking bs (placeAfter m place frames starts .at) (placeAfter m place frames starts .depth) (framesAfter m place frames) (startsAfter m place starts) (left - 1) es
 
     -- TAL closes a repeat, which is kept
     some-kept : (c : Context) → closerOf c ≡ byTal → depth ≡ height c → 0 < depth
@@ -153,37 +172,30 @@ module _ (bs : List ℕ) where
     unfolding interpret
     call-room k r rest q = omega (arith, rw (opened bs at (call k r) rest q .0) at (w .here .low), w .deep)
 
-    moves : Facts bs → at < length bs / 2 → (m : Move) → nextOf (kindOf (pairAt bs at)) ≡ Structure m → BoundedMove m → Moves m
-    unfolding placeAfter framesAfter startsAfter
-    moves f i m e b = go (kindOf (pairAt bs at)) refl e
-      where
-        other : Event ≡ Structure m → ⊥
-        other q = let z : _≡_ {A = ℕ} 0 1 = cc in omega arith
+    -- what a move may count on
+    room : Facts bs → at < length bs / 2 → (m : Move) → kindOf (pairAt bs at) ≡ kindIn m → BoundedMove m → Room m depth
+    room f i (Repeat n) e b = (b, repeat-room n _ _ _ (hed-at bs at i n e))
+    room f i (Phrase k) e b = b
+    room f i (Call k) e b = (b, call-room k _ _ (cal-at bs at i k e))
+    room f i Tal e b = tal-kept (tal-at bs at i e)
+    room f i End e b = tt
 
-        move-as : (x : Move) → Structure x ≡ Structure m → (BoundedMove x → Moves x) → Moves m
-        move-as x q f = let same : x ≡ m = cc in subst Moves same (f (subst BoundedMove (sym same) b))
-
-        go : (z : Kind) → kindOf (pairAt bs at) ≡ z → nextOf z ≡ Structure m → Moves m
-        go Kind.Event q n = absurd (other n)
-        go (Kind.Hed t) q n =
-            let o = hed-at bs at i t q in
-            move-as (Repeat t) n (λ small. ((small, repeat-room t _ _ _ o), repeat-step bs at depth frames starts left es w t q o (f .hed at t i q) small))
-        go Kind.Tal q n = let o = tal-at bs at i q in move-as Tal n (λ u. (tal-kept o, tal-step bs at depth frames starts left es w q o))
-        go (Kind.Def k) q n = move-as (Phrase k) n (λ small. (small, phrase-step bs at depth frames starts left es w k q (def-at bs at i k q) small (f .def at k i q)))
-        go Kind.End q n = move-as End n (λ u. (tt, end-step bs at depth frames starts left es w q (end-at bs at i q)))
-        go (Kind.Cal k) q n =
-            let o = cal-at bs at i k q in
-            let d = f .cal at k i q in
-            move-as (Call k) n (λ small. ((small, call-room k _ _ o), call-step bs at depth frames starts left es w k (d .0) q o i (d .1) (d .2)))
-        go Kind.Hlt q n = absurd (other n)
-        go (Kind.Bad k) q n = absurd (other n)
+    -- where it leads
+    moved : Facts bs → at < length bs / 2 → (m : Move) → kindOf (pairAt bs at) ≡ kindIn m → BoundedMove m → (body : ℕ) → Goes bs m body
+        → Stepped bs at body (w .context) (placeAfter m place body frames .at) (placeAfter m place body frames .depth) (framesAfter m place frames) (left - 1) es
+    unfolding placeAfter framesAfter
+    moved f i (Repeat n) e b body g = repeat-step bs at depth frames left es w n (hed-at bs at i n e) (f .hed at n i e) b body
+    moved f i (Phrase k) e b body g = phrase-step bs at depth frames left es w k (def-at bs at i k e) body
+    moved f i (Call k) e b body g = call-step bs at depth frames left es w k (cal-at bs at i k e) body g
+    moved f i Tal e b body g = tal-step bs at depth frames left es w (tal-at bs at i e) body
+    moved f i End e b body g = end-step bs at depth frames left es w (end-at bs at i e) body
 
     pub walk-low : depth ≤ 16
     walk-low = omega (arith, w .here .low, w .deep)
 
     pub walk-ready : Facts bs → length bs ≤ 65536 → at < length bs / 2 → (m : Move) → nextOf (kindOf (pairAt bs at)) ≡ Structure m → BoundedMove m → Ready m place
-    walk-ready f s i m e b = record { few = omega arith; low = walk-low; room = moves f i m e b .0 }
+    walk-ready f s i m e b = record { few = omega arith; low = walk-low; room = room f i m (move-kind _ m e) b }
 
-    pub walk-move : Facts bs → at < length bs / 2 → (m : Move) → nextOf (kindOf (pairAt bs at)) ≡ Structure m → BoundedMove m
-        → Walking bs (placeAfter m place frames starts .at) (placeAfter m place frames starts .depth) (framesAfter m place frames) (startsAfter m place starts) (left - 1) es
-    walk-move f i m e b = moves f i m e b .1
+    pub walk-move : Facts bs → at < length bs / 2 → (m : Move) → nextOf (kindOf (pairAt bs at)) ≡ Structure m → BoundedMove m → (body : ℕ) → Goes bs m body
+        → Stepped bs at body (w .context) (placeAfter m place body frames .at) (placeAfter m place body frames .depth) (framesAfter m place frames) (left - 1) es
+    walk-move f i m e b body g = moved f i m (move-kind _ m e) b body g

@@ -1,2 +1,3 @@
 pub mod Times
+pub mod Turns
 pub mod Bounds

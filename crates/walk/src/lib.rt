@@ -8,6 +8,10 @@ ghost use Rattle.walk.specs.Bounds.{Listable};
 use cells::Cursor;
 use moves::Next;
 use moves::Place;
+use moves::noted;
+use turn::Clock;
+
+mod turn;
 
 // internal: fills the first count cells of both lists with the file offsets and jiffies of a voice's events from number first on. The voice is one that
 // acceptance let pass; base is the file offset of its first pair, walked its pairs walked. One step a pair walked, and none behind the last event asked for.
@@ -26,8 +30,10 @@ pub fn list_voice(
     let mut frames = [0u32; 16];
     let mut starts = [0u16; 24];
     let mut place = Place { at: 0, depth: 0 };
-    let mut values = clock::at_start();
-    let mut time: u64 = 0;
+    let mut now = Clock {
+        time: 0,
+        values: clock::at_start(),
+    };
     let mut cursor = Cursor {
         skip: first,
         filled: 0,
@@ -39,17 +45,15 @@ pub fn list_voice(
         let depth = place.depth;
         match moves::next_at(voice, at) {
             Next::Event => {
-                let a = voice[2 * at];
-                let b = voice[2 * at + 1];
-                let offset = (base + 2 * at) as u32;
-                let jiffy = (time / 384) as u32;
-                cursor = cells::put(cursor, offset, jiffy, offsets, jiffies);
-                time += clock::length(values, a, b) as u64;
-                values = clock::values_after(values, a, b);
-                let next = at + 1;
-                place = Place { at: next, depth };
+                let event = turn::turn_at(voice, base, at, now);
+                cursor = cells::put(cursor, event.offset, event.jiffy, offsets, jiffies);
+                now = event.after;
+                place = Place { at: at + 1, depth };
             }
-            Next::Structure(m) => place = moves::go_on(m, place, &mut frames, &mut starts),
+            Next::Structure(m) => {
+                let body = noted::body_of(m, at, &mut starts);
+                place = moves::go_on(m, place, body, &mut frames);
+            }
         }
     }
 }

@@ -3,7 +3,7 @@ use Prim.Native.Nat.{ℕ}
 use borrow.Author.Needs.{needs}
 use mathlib.Core.Path.{_≡_, refl, subst}
 use Rattle.moves.specs.declared.Move.{Move}
-use Rattle.moves.specs.Moves.{Room, placeAfter, framesAfter, startsAfter}
+use Rattle.moves.specs.Moves.{Room, placeAfter, framesAfter}
 use Rattle.moves.proofs.go_on.Statement.{statement}
 use Rattle.moves.proofs.go_on.Tie as tie
 
@@ -17,38 +17,31 @@ kept-requires c κs = (c .before .before .before .pre .few, room-for _ (c .befor
 element-write-frames : tie.Need-element-write-frames
 element-write-frames c = room-for _ (c .before .before .m .given .1) (c .before .before .before .before .pre .room) .1
 
-element-write-starts : tie.Need-element-write-starts
-element-write-starts c = rw (c .wide .ensures) (room-for _ (c .before .before .m2 .given .1) (c .before .before .before .before .pre .room))
-
 element-write-frames-2 : tie.Need-element-write-frames-2
-element-write-frames-2 c = room-for _ (c .before .before .m3 .given .1) (c .before .before .before .before .pre .room) .1
-
-element-copy-out-wide : tie.Need-element-copy-out-wide
-element-copy-out-wide c = rw (c .wide2 .ensures) (room-for _ (c .before .before .before .m3 .given .1) (c .before .before .before .before .before .pre .room) .0)
+element-write-frames-2 c = room-for _ (c .before .enum-told2 .given .1) (c .before .before .before .pre .room) .1
 
 close-repeat-requires : tie.Need-close-repeat-requires
-close-repeat-requires c κs = (room-for _ (c .before .enum-told .given .1) (c .before .before .before .pre .room), c .before .before .before .pre .low, c .before .before .before .pre .few)
+close-repeat-requires c κs = (room-for _ (c .before .enum-told3 .given .1) (c .before .before .before .pre .room), c .before .before .before .pre .low, c .before .before .before .pre .few)
 
 returns : tie.Need-returns
-unfolding placeAfter framesAfter startsAfter
-returns c = rw (c .before .before .m .given .1, c .kept .ensures) (refl, refl, refl)
+unfolding placeAfter framesAfter
+returns c = rw (c .before .before .m .given .1, c .kept .ensures) (refl, refl)
 
 returns-2 : tie.Need-returns-2
-unfolding placeAfter framesAfter startsAfter
-returns-2 c = rw (c .before .before .m2 .given .1, c .wide .ensures) (refl, refl, refl)
+unfolding placeAfter framesAfter
+returns-2 c = rw (c .enum-told .given .1) (refl, refl)
 
 returns-3 : tie.Need-returns-3
-unfolding placeAfter framesAfter startsAfter
-returns-3 c =
-    rw (c .before .before .before .before .before .m3 .given .1, c .wide3 .ensures, c .before .before .wide2 .ensures, c .before .before .before .kept2 .ensures) (refl, refl, refl)
+unfolding placeAfter framesAfter
+returns-3 c = rw (c .before .enum-told2 .given .1, c .kept2 .ensures) (refl, refl)
 
 returns-4 : tie.Need-returns-4
-unfolding placeAfter framesAfter startsAfter
-returns-4 c = rw (c .before .before .enum-told .given .1) (c .close-repeat .ensures .0, c .close-repeat .ensures .1, refl)
+unfolding placeAfter framesAfter
+returns-4 c = rw (c .before .before .enum-told3 .given .1) (c .close-repeat .ensures)
 
 returns-5 : tie.Need-returns-5
-unfolding placeAfter framesAfter startsAfter
-returns-5 c = rw (c .before .before .enum-told2 .given .1) (c .close-phrase .ensures, refl, refl)
+unfolding placeAfter framesAfter
+returns-5 c = rw (c .before .before .enum-told4 .given .1) (c .close-phrase .ensures, refl)
 
 pub go-on-spec : {M : Type 1} → statement M
 go-on-spec =
@@ -65,16 +58,7 @@ go-on-spec =
     (λ c. search needs)
     (λ c κs. search needs)
     (λ c. search needs)
-    element-write-starts
-    (λ c. search needs)
-    (λ c. search needs)
-    (λ c κs. search needs)
-    (λ c. search needs)
     element-write-frames-2
-    (λ c κs. search needs)
-    (λ c. search needs)
-    element-copy-out-wide
-    (λ c κs. search needs)
     (λ c. search needs)
     (λ c. search needs)
     close-repeat-requires
