@@ -7,12 +7,13 @@
 -- call-stands                so for each CAL of a voice
 use Prim.Native.Nat.{ℕ}
 use mathlib.Core.Path.{_≡_, refl, sym, ap, _∙_, subst}
-use mathlib.Core.Bool.{Bool, true, false, _||_}
+use mathlib.Core.Bool.{Bool, true, false}
 use mathlib.Core.List.{List, [], _∷_}
 use mathlib.Core.Logic.{_⊎_, ⊎-elim}
 use native.Mathlib.Omega.{arith}
 use lib.Dec.{eqb}
 use borrow.Author.Tests.{eqb-true, eq-eqb}
+use Rattle.logic.specs.Cases.{cases}
 use Rattle.meaning.specs.declared.Meaning.{Meaning}
 use Rattle.refusals.specs.Numbers.{Outcome}
 use Rattle.bodies.specs.Bodies.{Body, done, event, repeat, phrase, call, bodyOf}
@@ -23,11 +24,7 @@ pub differ : false ≡ true → ⊥
 differ q = let z : _≡_ {A = ℕ} 0 1 = cc in omega arith
 
 pub closed-more : (k j : ℕ) (K : ℕ → Bool) → K k ≡ true → also j K k ≡ true
-closed-more k j K h = go (eqb j k)
-  where
-    go : (b : Bool) → b || K k ≡ true
-    go true = refl
-    go false = h
+closed-more k j K h = cases (eqb j k) (λ e. rw e) (λ e. rw e h)
 
 pub closed-kept : (k : ℕ) (K : ℕ → Bool) (b : Body) → K k ≡ true → closes K b k ≡ true
 unfolding closes
@@ -55,11 +52,7 @@ flat-none k (call j r) f = flat-none k r f
 
 -- a number that is closed and one that is not are two
 apart : (k j : ℕ) (K : ℕ → Bool) → K k ≡ true → K j ≡ false → eqb j k ≡ false
-apart k j K h g = go (eqb j k) refl
-  where
-    go : (b : Bool) → eqb j k ≡ b → b ≡ false
-    go true e = absurd (differ (sym g ∙ (rw (eqb-true j k e) h)))
-    go false e = refl
+apart k j K h g = cases (eqb j k) (λ e. absurd (differ (sym g ∙ (rw (eqb-true j k e) h)))) (λ e. e)
 
 itself : (k : ℕ) (K : ℕ → Bool) → also k K k ≡ true
 itself k K = rw (eq-eqb k k refl)
@@ -74,18 +67,10 @@ fresh k K (call j r) o h = fresh k K r (o .1) h
 
 -- a number that is open behind a body was open before it, and is not defined in it
 open-before : (k : ℕ) (K : ℕ → Bool) (b : Body) → closes K b k ≡ false → K k ≡ false
-open-before k K b h = go (K k) refl
-  where
-    go : (t : Bool) → K k ≡ t → t ≡ false
-    go true e = absurd (differ (sym h ∙ closed-kept k K b e))
-    go false e = refl
+open-before k K b h = cases (K k) (λ e. absurd (differ (sym h ∙ closed-kept k K b e))) (λ e. e)
 
 also-open : (k j : ℕ) (K : ℕ → Bool) → also j K k ≡ false → (eqb j k ≡ false) × (K k ≡ false)
-also-open k j K h = go (eqb j k) h
-  where
-    go : (t : Bool) → t || K k ≡ false → (t ≡ false) × (K k ≡ false)
-    go true e = absurd (differ (sym e))
-    go false e = (refl, e)
+also-open k j K h = cases (eqb j k) (λ e. absurd (differ (sym (rw e at h)))) (λ e. (e, rw e at h))
 
 unclosed : (k : ℕ) (K : ℕ → Bool) (b : Body) → Ordered K b → closes K b k ≡ false → definitions k b ≡ []
 unfolding definitions Ordered closes
@@ -155,31 +140,25 @@ module _ {A : Type 0} (m : Interpretation A) where
   the-one σ K ρ (done c) k o a f t = absurd (differ (sym f ∙ t))
   the-one σ K ρ (event e r) k o a f t = let x = the-one σ K ρ r k o a f t in record { body = x .body; only = x .only; means = x .means }
   the-one σ K ρ (repeat n i r) k o a f t =
-      go (closes K i k) refl
-      (λ q. the-one σ K ρ i k (o .0) (λ j h. sym (keep (closes K i) (phrases m ρ i) r j (o .1) h) ∙ a j (closed-kept j (closes K i) r h)) f q)
-      (λ q. the-one σ (closes K i) (phrases m ρ i) r k (o .1) a q t)
-    where
-      go : (b : Bool) → closes K i k ≡ b → (closes K i k ≡ true → TheOne σ k i) → (closes K i k ≡ false → TheOne σ k r) → TheOne σ k (repeat n i r)
-      go true e left right =
-          let x = left e in
-          record { body = x .body; only = rw (x .only, fresh k (closes K i) r (o .1) e); means = x .means }
-      go false e left right =
-          let x = right e in
-          record { body = x .body; only = rw (unclosed k K i (o .0) e) (x .only); means = x .means }
+      cases (closes K i k)
+      (λ e.
+      let x = the-one σ K ρ i k (o .0) (λ j h. sym (keep (closes K i) (phrases m ρ i) r j (o .1) h) ∙ a j (closed-kept j (closes K i) r h)) f e in
+      record { body = x .body; only = rw (x .only, fresh k (closes K i) r (o .1) e); means = x .means })
+      (λ e.
+      let x = the-one σ (closes K i) (phrases m ρ i) r k (o .1) a e t in
+      record { body = x .body; only = rw (unclosed k K i (o .0) e) (x .only); means = x .means })
   the-one σ K ρ (phrase j i r) k o a f t =
-      go (eqb j k) refl (λ q. the-one σ (also j K) (learn j (interpret m ρ i) ρ) r k (o .3) a q t)
-    where
-      go : (b : Bool) → eqb j k ≡ b → (also j K k ≡ false → TheOne σ k r) → TheOne σ k (phrase j i r)
-      go true e right =
-          let q : j ≡ k = eqb-true j k e in
-          record {
-            body = i;
-            only = rw (e, flat-none k i (o .1), fresh k (also j K) r (o .3) (subst (λ (x : ℕ). also j K x ≡ true) q (itself j K)));
-            means = subst (λ (x : ℕ). σ x ≡ interpret m σ i) q (here σ K ρ j i r o a);
-          }
-      go false e right =
-          let x = right (rw e f) in
-          record { body = x .body; only = rw (e, flat-none k i (o .1)) (x .only); means = x .means }
+      cases (eqb j k)
+      (λ e.
+      let q : j ≡ k = eqb-true j k e in
+      record {
+        body = i;
+        only = rw (e, flat-none k i (o .1), fresh k (also j K) r (o .3) (subst (λ (x : ℕ). also j K x ≡ true) q (itself j K)));
+        means = subst (λ (x : ℕ). σ x ≡ interpret m σ i) q (here σ K ρ j i r o a);
+      })
+      (λ e.
+      let x = the-one σ (also j K) (learn j (interpret m ρ i) ρ) r k (o .3) a (rw e f) t in
+      record { body = x .body; only = rw (e, flat-none k i (o .1)) (x .only); means = x .means })
   the-one σ K ρ (call j r) k o a f t = let x = the-one σ K ρ r k (o .1) a f t in record { body = x .body; only = x .only; means = x .means }
 
 -- a number that is called is closed

@@ -5,12 +5,12 @@
 -- events-walked   a voice has no more events than pairs walked
 use Prim.Native.Nat.{ℕ, zero, suc, _+_, _*_, _≤_}
 use mathlib.Core.Path.{_≡_, sym, _∙_}
-use mathlib.Core.Bool.{Bool, true, false, cond}
 use mathlib.Core.List.{List}
 use native.Mathlib.Nat.{le-refl, suc-mul, zero-mul}
 use native.Mathlib.Omega.{arith}
 use lib.Dec.{eqb}
 use lib.ListN.{length, length-append}
+use Rattle.logic.specs.Cases.{cases}
 use Rattle.meaning.specs.declared.Meaning.{Meaning}
 use Rattle.refusals.specs.Numbers.{Outcome}
 use Rattle.bodies.specs.Bodies.{Event, Body, done, event, repeat, phrase, call, bodyOf}
@@ -33,11 +33,7 @@ module _ {A B : Type 0} (m : Interpretation A) (n : Interpretation B) (R : A →
   related ρ σ h (call k x) = r .called _ _ _ _ (h k) (related ρ σ h x)
 
   learned : (k j : ℕ) (a : A) (b : B) (ρ : ℕ → A) (σ : ℕ → B) → R a b → R (ρ j) (σ j) → R (learn k a ρ j) (learn k b σ j)
-  learned k j a b ρ σ x y = go (eqb k j)
-    where
-      go : (t : Bool) → R (cond t a (ρ j)) (cond t b (σ j))
-      go true = x
-      go false = y
+  learned k j a b ρ σ x y = cases (eqb k j) (λ e. rw e x) (λ e. rw e y)
 
   pub related-phrases : (ρ : ℕ → A) (σ : ℕ → B) → ((k : ℕ) → R (ρ k) (σ k)) → (b : Body) (k : ℕ) → R (phrases m ρ b k) (phrases n σ b k)
   unfolding phrases

@@ -23,10 +23,11 @@ use Rattle.bodies.specs.OnePass.{reading}
 use Rattle.bodies.specs.Places.{openAt, bodyAt}
 use Rattle.bodies.proofs.Related.{Relation, related-voice, length-copies, events-walked}
 use Rattle.bodies.proofs.OnePass.{one-pass-voice}
-use Rattle.counts.specs.declared.count.Counts.{Counts}
+use Rattle.tally.specs.declared.Counts.{Counts}
 use Rattle.counts.specs.declared.Extent.{Extent}
 use Rattle.counts.specs.declared.Counted.the-variants.{Within, Off}
-use Rattle.counts.specs.Counting.{cap, join, counting}
+use Rattle.tally.specs.Sums.{cap, join}
+use Rattle.counts.specs.Counting.{counting}
 use Rattle.counts.specs.Measures.{heldIn, readAt, Measures}
 use Rattle.counts.specs.Limits.{countOutcome}
 use Rattle.bodies.proofs.Cells.{blank}

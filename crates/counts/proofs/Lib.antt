@@ -1,4 +1,3 @@
-pub mod Sums
 pub mod Kept
 pub mod Readings
 pub mod Capped

@@ -15,13 +15,14 @@ use Rattle.bodies.specs.Bodies.{Event, Closer, byStop, Body, done, event, repea
 use Rattle.bodies.specs.OnePass.{Read, reading}
 use Rattle.bodies.specs.Places.{openAt, bodyAt}
 use Rattle.bodies.proofs.Stored.{open-end}
-use Rattle.counts.specs.declared.count.Counts.{Counts}
+use Rattle.tally.specs.declared.Counts.{Counts}
 use Rattle.counts.specs.declared.Extent.{Extent}
-use Rattle.counts.specs.Counting.{join, none, more, passes, standing, again, counting}
-use Rattle.counts.specs.Small.{Small, Running, coded}
+use Rattle.tally.specs.Sums.{join, none, more, passes, standing, again}
+use Rattle.counts.specs.Counting.{counting}
+use Rattle.tally.specs.Small.{Small, Running, coded}
 use Rattle.counts.specs.Measures.{heldIn, Cells, readAt, Measures}
 use Rattle.counts.proofs.Kept.{keep-held}
-use Rattle.counts.proofs.Sums.{join-assoc, none-join, more-join, small-join}
+use Rattle.tally.proofs.Sums.{join-assoc, none-join, more-join, small-join}
 
 pub record Sum (bs cells₀ : List ℕ) (c from : ℕ) (sum : Counts) (at : ℕ) (cells : List ℕ) : Type 0 where
   pub later : from ≤ at

@@ -1,4 +1,3 @@
 pub mod Counting
-pub mod Small
 pub mod Measures
 pub mod Limits

@@ -13,12 +13,12 @@ use Rattle.bodies.specs.Voice.{pairs}
 use Rattle.bodies.specs.Bodies.{outer}
 use Rattle.bodies.specs.Places.{openAt, bodyAt}
 use Rattle.bodies.specs.OnePass.{Read, reading}
-use Rattle.counts.specs.declared.count.Counts.{Counts}
+use Rattle.tally.specs.declared.Counts.{Counts}
 use Rattle.counts.specs.declared.Extent.{Extent}
 use Rattle.counts.specs.declared.Measured.{Measured}
 use Rattle.counts.specs.declared.Measured.the-variants.{Body, TooDeep}
 use Rattle.counts.specs.Counting.{counting}
-use Rattle.counts.specs.Small.{Small, decoded}
+use Rattle.tally.specs.Small.{Small, decoded}
 
 abbrev pub heldIn : List ℕ → ℕ → Counts
 heldIn cells k = decoded (getD cells k 0)

@@ -7,9 +7,7 @@ ghost use Rattle.bodies.specs.Order.{Sound};
 ghost use Rattle.counts.specs.Limits.{countOutcome};
 ghost use Rattle.counts.specs.Measures.{Ready, Right};
 use bodies::Part;
-use count::Counts;
-
-mod count;
+use tally::Counts;
 
 // The counts of a body, and the number of the pair that closes it.
 struct Extent {
@@ -30,12 +28,12 @@ fn measure(voice: &[u8], cells: &mut [u64; 24], allowance: u32, from: usize) -> 
     ensures { λ r. ⌜ Right (now (voice .entry)) (now (cells .entry)) allowance from (now (cells .exit)) r ⌝ }
 {
     let n = voice.len() / 2;
-    let mut sum = count::nothing();
+    let mut sum = tally::nothing();
     let mut at = from;
     while at < n {
         match bodies::part_at(voice, at) {
             Part::Plain => {
-                sum = count::with_event(sum);
+                sum = tally::with_event(sum);
                 at += 1;
             }
             Part::Repeat(times) => {
@@ -45,7 +43,7 @@ fn measure(voice: &[u8], cells: &mut [u64; 24], allowance: u32, from: usize) -> 
                 match measure(voice, cells, allowance - 1, at + 1) {
                     Measured::TooDeep => return Measured::TooDeep,
                     Measured::Body(m) => {
-                        sum = count::with_repeat(sum, times, m.counts);
+                        sum = tally::with_repeat(sum, times, m.counts);
                         at = m.at + 1;
                     }
                 }
@@ -53,27 +51,27 @@ fn measure(voice: &[u8], cells: &mut [u64; 24], allowance: u32, from: usize) -> 
             Part::Phrase(k) => match measure(voice, cells, allowance, at + 1) {
                 Measured::TooDeep => return Measured::TooDeep,
                 Measured::Body(m) => {
-                    cells[k as usize] = count::coded(m.counts);
-                    sum = count::with_phrase(sum, m.counts);
+                    cells[k as usize] = tally::coded(m.counts);
+                    sum = tally::with_phrase(sum, m.counts);
                     at = m.at + 1;
                 }
             },
             Part::Call(k) => {
-                let c = count::decoded(cells[k as usize]);
+                let c = tally::decoded(cells[k as usize]);
                 if allowance <= c.depth {
                     return Measured::TooDeep;
                 }
-                sum = count::with_call(sum, c);
+                sum = tally::with_call(sum, c);
                 at += 1;
             }
             Part::Close => return Measured::Body(Extent {
-                counts: count::settled(sum),
+                counts: tally::settled(sum),
                 at,
             }),
         }
     }
     Measured::Body(Extent {
-        counts: count::settled(sum),
+        counts: tally::settled(sum),
         at: n,
     })
 }

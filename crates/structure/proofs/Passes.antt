@@ -6,13 +6,14 @@
 -- number-few, none-held                  what the cells are asked for, and hold at first
 use Prim.Native.Nat.{ℕ, _+_, _/_, _<_, _≤_}
 use mathlib.Core.Path.{_≡_, refl, sym, _∙_, subst, fun-ext}
-use mathlib.Core.Bool.{Bool, true, false, not, _||_, cond}
+use mathlib.Core.Bool.{Bool, false}
 use mathlib.Core.List.{List, []}
 use native.Mathlib.Omega.{arith}
 use native.Mathlib.Decide.{decLt}
 use lib.Dec.{eqb}
 use borrow.Author.Tests.{eq-eqb, ne-eqb}
 use lib.ListN.{length, drop, getD, set, length-set}
+use Rattle.logic.specs.Cases.{cases}
 use Rattle.refusals.specs.Tests.{firstOf}
 use Rattle.refusals.specs.declared.Verdict.{Verdict}
 use Rattle.refusals.specs.declared.Verdict.the-variants.{Passed, Failed}
@@ -85,11 +86,7 @@ asked-once (Bad n) o f = refl
 
 -- a cell set is a number more that is closed
 held-more : (cells : List ℕ) (k : ℕ) → k < length cells → held (set cells k 1) ≡ also k (held cells)
-held-more cells k h = fun-ext (λ j. rw (set-at cells k j 1 h) (go (eqb k j) (getD cells j 0)))
-  where
-    go : (t : Bool) (x : ℕ) → eqb (cond t 1 x) 1 ≡ t || eqb x 1
-    go true x = refl
-    go false x = refl
+held-more cells k h = fun-ext (λ j. rw (set-at cells k j 1 h) (cases (eqb k j) (λ e. rw e) (λ e. rw e)))
 
 module _ (bs cells : List ℕ) (o : Open) (i : ℕ) (s : Seen bs cells o i) (h : i < length bs / 2) where
   abbrev z : Kind

@@ -4,13 +4,14 @@
 -- facts       so of each voice that none of 27 to 33 refuses
 use Prim.Native.Nat.{ℕ, zero, suc, _+_, _/_, _<_, _≤_}
 use mathlib.Core.Path.{_≡_, refl, subst}
-use mathlib.Core.Bool.{Bool, true, false, _||_}
+use mathlib.Core.Bool.{Bool, true, false}
 use mathlib.Core.List.{List, [], _∷_}
 use native.Mathlib.Numerals.{add-one}
 use native.Mathlib.Omega.{arith}
 use lib.Dec.{eqb}
 use lib.ListN.{length, drop}
 use borrow.Author.Tests.{not-false, eqb-true, eqb-false}
+use Rattle.logic.specs.Cases.{cases}
 use Rattle.refusals.specs.Tests.{None}
 use Rattle.kind.specs.declared.Kind.{Kind}
 use Rattle.kind.specs.declared.Kind.the-variants.{Event, Hed, Tal, Def, End, Cal, Hlt, Bad}
@@ -63,11 +64,8 @@ module _ (bs : List ℕ) where
   closed-by : (i : ℕ) (os : List Opener) (K : ℕ → Bool) → Opened i os → ((k : ℕ) → K k ≡ true → Before i k) → (k : ℕ) → closedBy os K k ≡ true → Before (i + 1) k
   closed-by i [] K p s k e = before-more i k (s k e)
   closed-by i (byHed ∷ os) K p s k e = before-more i k (s k e)
-  closed-by i (byDef j ∷ os) K p s k e = go (eqb j k) refl e
-    where
-      go : (b : Bool) → eqb j k ≡ b → b || K k ≡ true → Before (i + 1) k
-      go true q e = subst (λ (x : ℕ). Before (i + 1) x) (eqb-true j k q) (before-more i j (p .0))
-      go false q e = before-more i k (s k e)
+  closed-by i (byDef j ∷ os) K p s k e =
+      cases (eqb j k) (λ q. subst (λ (x : ℕ). Before (i + 1) x) (eqb-true j k q) (before-more i j (p .0))) (λ q. before-more i k (s k (rw q at e)))
 
   seen-step : (i : ℕ) (z : Kind) (o : Nesting) → kindOf (pairAt bs i) ≡ z → Seen i o → Seen (i + 1) (after z o)
   seen-step i Event o q s = record { shut = λ k e. before-more i k (s .shut k e); still = opened-more i (o .openers) (s .still) }

@@ -9,7 +9,7 @@ use mathlib.Core.List.{List, _∷_, _++_, append-assoc}
 use native.Mathlib.Numerals.{sub-one}
 use native.Mathlib.Nat.{suc-mul}
 use native.Mathlib.Omega.{arith}
-use lib.ListN.{length, getD, set, length-set}
+use lib.ListN.{set, length-set}
 use lib.Seq.{getD-set-same, getD-set-other}
 use Rattle.bodies.specs.Voice.{pairs}
 use Rattle.bodies.specs.Bodies.{Event, Body, event, repeat, phrase, call, inner, outer}

@@ -9,19 +9,19 @@ use borrow.Fn.PlainCycle as cycle
 use lib.ListN.{length}
 use Rattle.bodies.specs.Places.{IsPart}
 use Rattle.bodies.proofs.part_at.Reads as part-at-reads
-use Rattle.counts.specs.Small.{Small}
+use Rattle.tally.specs.Small.{Small}
 use Rattle.counts.specs.Measures.{Measures, Right}
 use Rattle.counts.proofs.Readings.{Sum, sum-start, running, event-step, call-step, call-deep, repeat-step, repeat-deep, phrase-step, phrase-deep, close-end, stop-end}
 use Rattle.counts.proofs.measure.Reads as measure
 use Rattle.counts.proofs.measure.Kinds as measure-kinds
-use Rattle.counts.proofs.count.coded.Reads as coded-reads
-use Rattle.counts.proofs.count.decoded.Reads as decoded-reads
-use Rattle.counts.proofs.count.nothing.Reads as nothing-reads
-use Rattle.counts.proofs.count.settled.Reads as settled-reads
-use Rattle.counts.proofs.count.with_call.Reads as with-call-reads
-use Rattle.counts.proofs.count.with_event.Reads as with-event-reads
-use Rattle.counts.proofs.count.with_phrase.Reads as with-phrase-reads
-use Rattle.counts.proofs.count.with_repeat.Reads as with-repeat-reads
+use Rattle.tally.proofs.coded.Reads as coded-reads
+use Rattle.tally.proofs.decoded.Reads as decoded-reads
+use Rattle.tally.proofs.nothing.Reads as nothing-reads
+use Rattle.tally.proofs.settled.Reads as settled-reads
+use Rattle.tally.proofs.with_call.Reads as with-call-reads
+use Rattle.tally.proofs.with_event.Reads as with-event-reads
+use Rattle.tally.proofs.with_phrase.Reads as with-phrase-reads
+use Rattle.tally.proofs.with_repeat.Reads as with-repeat-reads
 use Rattle.counts.proofs.+measure.{statement}
 use Rattle.counts.proofs.+measure.Lts-measure as lts
 use Rattle.counts.proofs.+measure.Tie.{close}

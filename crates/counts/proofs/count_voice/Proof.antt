@@ -18,7 +18,7 @@ returns c = too-deep _ (c .before .before .before .before .before .pre .1) (subs
 returns-2 : tie.Need-returns-2
 returns-2 c =
     let g : Measures _ (blank 24) 16 0 (c .before .before .before .before .m .given .0 .0) _ = subst (Right _ _ _ _ _) (c .before .before .before .before .m .given .1) (c .before .before .before .before .before .before .measure .ensures) in
-    within _ (c .before .before .before .before .before .before .before .before .before .pre .1) _ _ g (c .if1 .taken)
+    within _ (c .before .before .before .before .before .before .before .before .before .pre .1) _ _ g (omega (arith, c .if1 .taken))
 
 returns-3 : tie.Need-returns-3
 returns-3 c =

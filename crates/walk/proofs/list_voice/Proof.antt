@@ -1,7 +1,7 @@
 -- `walk::list_voice` meets its contract. The loop's invariant: what is filled so far, before what is still to come, is the window asked for. One pair less is to be walked
 -- at each turn.
 use borrow.Author.Needs.{needs}
-use mathlib.Core.Path.{_≡_, sym, subst, _∙_}
+use mathlib.Core.Path.{sym, subst, _∙_}
 use native.Mathlib.Omega.{arith}
 use Rattle.moves.specs.Moves.{Bounded}
 use Rattle.walk.proofs.Listings.{Listing, listing-start, listing-end, listing-next, listing-timed, listing-room, listing-event, listing-ready, listing-move}

@@ -3,7 +3,7 @@
 -- Running          counts of a body that is still being read: past the stop by its last events at most, fewer than a voice has bytes
 -- coded, decoded   counts in one number, and back: events from bit 26 on, pairs walked in bits 5 to 25, depth in bits 0 to 4
 use Prim.Native.Nat.{ℕ, _+_, _*_, _/_, _%_, _≤_}
-use Rattle.counts.specs.declared.count.Counts.{Counts}
+use Rattle.tally.specs.declared.Counts.{Counts}
 
 pub record Small (a : Counts) : Type 0 where
   pub events : a .events ≤ 1048577

@@ -1,10 +1,10 @@
-// Counts added up. Events and pairs walked stop at 1,048,577, one more than 33 lets pass, so that no sum outgrows its number; the
-// laws show that the stop never shows in an answer. A plain event is the most frequent pair, and a voice has too few of them to
+// Internal: counts added up. Events and pairs walked stop at 1,048,577, one more than 33 lets pass, so that no sum outgrows its
+// number; the laws of crates/counts show that the stop never shows in an answer. A plain event is the most frequent pair, and a voice has too few of them to
 // outgrow anything: they are added without the stop, which comes where counts are joined and where a body ends.
 ghost use mathlib.Core.Path.{_≡_};
 ghost use Prim.Native.Nat.{_<_, _≤_, max};
-ghost use Rattle.counts.specs.Counting.{cap, join, none, more, passes, standing, again};
-ghost use Rattle.counts.specs.Small.{Small, Running, coded, decoded};
+ghost use Rattle.tally.specs.Sums.{cap, join, none, more, passes, standing, again};
+ghost use Rattle.tally.specs.Small.{Small, Running, coded, decoded};
 
 // The events and pairs walked of a body, and its depth.
 pub struct Counts {

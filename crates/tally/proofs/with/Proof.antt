@@ -1,9 +1,9 @@
--- `counts::count::with` meets its contract.
+-- `tally::with` meets its contract.
 use borrow.Author.Needs.{needs}
-use Rattle.counts.specs.Counting.{join}
-use Rattle.counts.proofs.Sums.{same-counts}
-use Rattle.counts.proofs.count.with.Statement.{statement}
-use Rattle.counts.proofs.count.with.Tie as tie
+use Rattle.tally.specs.Sums.{join}
+use Rattle.tally.proofs.Sums.{same-counts}
+use Rattle.tally.proofs.with.Statement.{statement}
+use Rattle.tally.proofs.with.Tie as tie
 
 returns : tie.Need-returns
 unfolding join

@@ -1,10 +1,10 @@
--- `counts::count::with_repeat` meets its contract.
+-- `tally::with_repeat` meets its contract.
 use borrow.Author.Needs.{needs}
 use Prim.Native.Nat.{_+_}
 use native.Mathlib.Omega.{arith}
-use Rattle.counts.proofs.Sums.{product}
-use Rattle.counts.proofs.count.with_repeat.Statement.{statement}
-use Rattle.counts.proofs.count.with_repeat.Tie as tie
+use Rattle.tally.proofs.Sums.{product}
+use Rattle.tally.proofs.with_repeat.Statement.{statement}
+use Rattle.tally.proofs.with_repeat.Tie as tie
 
 mul-t5 : tie.Need-mul-t5
 mul-t5 c =

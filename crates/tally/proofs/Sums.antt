@@ -3,13 +3,14 @@
 -- join-assoc, none-join   join is a sum that stops at the cap
 -- more-join      where the stop comes later, an event added without it is an event joined
 -- small-join     what it gives is small again
+-- decoded-coded  counts in one number come back as they were
 use Prim.Native.Nat.{ℕ, _*_, _<_, _≤_}
 use mathlib.Core.Path.{_≡_}
 use native.Mathlib.Nat.{mul-le-mul}
 use native.Mathlib.Omega.{arith}
-use Rattle.counts.specs.declared.count.Counts.{Counts}
-use Rattle.counts.specs.Counting.{join, none, single, more}
-use Rattle.counts.specs.Small.{Small}
+use Rattle.tally.specs.declared.Counts.{Counts}
+use Rattle.tally.specs.Sums.{join, none, single, more}
+use Rattle.tally.specs.Small.{Small, coded, decoded}
 
 pub product : (n x : ℕ) → n < 256 → x ≤ 1048578 → n * x ≤ 267387390
 product n x h g =
@@ -35,3 +36,7 @@ more-join a b = same-counts (join (more a) b) (join a (join single b)) (omega ar
 pub small-join : (a b : Counts) → a .depth ≤ 16 → b .depth ≤ 16 → Small (join a b)
 unfolding join
 small-join a b h g = record { events = omega arith; walked = omega arith; depth = omega arith }
+
+pub decoded-coded : (c : Counts) → Small c → decoded (coded c) ≡ c
+decoded-coded c s =
+    same-counts (decoded (coded c)) c (omega (arith, s .events, s .walked, s .depth)) (omega (arith, s .events, s .walked, s .depth)) (omega (arith, s .depth))
