@@ -1,4 +1,4 @@
-use mathlib.Core.Path.{sym, ap, _∙_, subst}
+use mathlib.Core.Path.{_≡_, sym, ap, _∙_, subst}
 use borrow.Author.Needs.{needs}
 use Rattle.refusals.specs.Numbers.{Outcome}
 use Rattle.meaning.specs.declared.Meaning.{Meaning}
@@ -13,6 +13,10 @@ use Rattle.answers.specs.Told.{unplaced-fits}
 use Rattle.paircalls.proofs.write.Statement.{statement}
 use Rattle.paircalls.proofs.write.Tie as tie
 
+-- what was decoded, then written
+onward : {o p : Outcome Meaning} → o ≡ p → packed bytesNumber (after o (λ m. spellingOf m)) ≡ packed bytesNumber (after p (λ m. spellingOf m))
+onward e = ap (λ (o : Outcome Meaning). packed bytesNumber (after o (λ m. spellingOf m))) e
+
 refused-requires : tie.Need-refused-requires
 refused-requires c κs =
     unplaced-fits (subst WithoutPair (sym (c .before .before .before .meaning-of .ensures) ∙ ap toldMeaning (c .before .x .given .1)) (undecoded (c .before .before .before .before .args .code)) .1)
@@ -24,19 +28,21 @@ refused-requires-2 c κs =
 returns : tie.Need-returns
 unfolding written
 returns c =
-    c .refused .ensures ∙ ap (λ (o : Outcome Meaning). packed bytesNumber (after o (λ m. spellingOf m))) (ap toldMeaning (sym (c .before .before .x .given .1)) ∙ c .before .before .before .before .meaning-of .ensures)
+    c .refused .ensures ∙ onward (ap toldMeaning (sym (c .before .before .x .given .1)) ∙ c .before .before .before .before .meaning-of .ensures)
 
 returns-2 : tie.Need-returns-2
 unfolding written
 returns-2 c =
-    c .refused2 .ensures ∙ ap (packed bytesNumber) (ap toldBytes (sym (c .before .before .x2 .given .1)) ∙ c .before .before .before .before .write .ensures)
-    ∙ ap (λ (o : Outcome Meaning). packed bytesNumber (after o (λ m. spellingOf m))) (ap toldMeaning (sym (c .before .before .before .before .before .before .m .given .1)) ∙ c .before .before .before .before .before .before .before .before .meaning-of .ensures)
+    let wrote = c .before .before .before .before in
+    c .refused2 .ensures ∙ ap (packed bytesNumber) (ap toldBytes (sym (c .before .before .x2 .given .1)) ∙ wrote .write .ensures)
+    ∙ onward (ap toldMeaning (sym (wrote .before .before .m .given .1)) ∙ wrote .before .before .before .before .meaning-of .ensures)
 
 returns-3 : tie.Need-returns-3
 unfolding written
 returns-3 c =
-    ap (packed bytesNumber) (ap toldBytes (sym (c .before .first .given .1)) ∙ c .before .before .before .write .ensures)
-    ∙ ap (λ (o : Outcome Meaning). packed bytesNumber (after o (λ m. spellingOf m))) (ap toldMeaning (sym (c .before .before .before .before .before .m .given .1)) ∙ c .before .before .before .before .before .before .before .meaning-of .ensures)
+    let wrote = c .before .before .before in
+    ap (packed bytesNumber) (ap toldBytes (sym (c .before .first .given .1)) ∙ wrote .write .ensures)
+    ∙ onward (ap toldMeaning (sym (wrote .before .before .m .given .1)) ∙ wrote .before .before .before .before .meaning-of .ensures)
 
 pub write-spec : {M : Type 1} → statement M
 write-spec =
