@@ -1,4 +1,5 @@
--- The three ways in which a part can lie: past the end, within, and over the end; and an entry of a list, cut in two steps. Assumes nothing.
+-- The three ways in which a part can lie: past the end, within, and over the end; and an entry of a list, cut
+-- in two steps. Assumes nothing.
 use Prim.Native.Nat.{ℕ, _+_, _-_, _≤_}
 use mathlib.Core.Path.{_≡_, sym, _∙_}
 use mathlib.Core.List.{List, []}

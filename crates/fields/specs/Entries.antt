@@ -1,4 +1,5 @@
--- Not of document 01: an entry by its number, of a list with a mark after each, for the words of programs; and its law.
+-- Not of document 01: an entry by its number, of a list with a mark after each, for the words of programs;
+-- and its law.
 -- startOf           where the part of a list begins that has so many marks before it
 -- entryAt           the entry
 -- joined            such a list

@@ -1,4 +1,5 @@
--- Document 01, 'PSID and RSID': 'Big-endian fields as in 003'; 'MUS container': 'low first'. A number that a file holds from byte k on.
+-- Document 01, 'PSID and RSID': 'Big-endian fields as in 003'; 'MUS container': 'low first'. A number that a
+-- file holds from byte k on.
 -- be16, be32   two and four bytes, high byte first
 -- le16         two bytes, low byte first
 -- A byte past the file's end counts as 0.

@@ -1,6 +1,7 @@
 -- Document 01, 'PSID and RSID', last paragraph: a text cut at a zero, and a payload put into memory.
 -- partOf       the part of lent bytes that a span names; of it what lies in them
--- before, beforeZero   'cut before the first zero among them', and so before any mark, byte by byte with unlessMark
+-- before, beforeZero   'cut before the first zero among them', and so before any mark, byte by byte with
+--                      unlessMark
 -- front        numbers in the first cells of a list, as many as fit, and the cells after them as they stood
 -- put          the bytes p in the place of those from a on, 'every cell but the payload's as it stood'
 use Prim.Native.Nat.{ℕ, _+_, min}

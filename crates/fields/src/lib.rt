@@ -1,5 +1,5 @@
-// Numbers, parts and texts in lent bytes, and the copy of bytes into memory. A read past the end gives 0, so that no reader
-// needs to know a length first.
+// Numbers, parts and texts in lent bytes, and the copy of bytes into memory. A read past the end gives 0, so
+// that no reader needs to know a length first.
 ghost use mathlib.Core.Path.{_≡_};
 ghost use Prim.Native.Nat.{_+_, _*_, _≤_};
 ghost use lib.ListN.{length, getD, take, drop};

@@ -19,8 +19,9 @@ fn put(text: &[u8], out: &mut [u8]) -> usize
     text.len()
 }
 
-// Puts the phrase of a number into the first cells of a list, as much of it as fits, and answers how many cells it took; nothing for
-// a number that the table does not have. The phrases stand in the order of the numbers, from 0 on, a line each.
+// Puts the phrase of a number into the first cells of a list, as much of it as fits, and answers how many
+// cells it took; nothing for a number that the table does not have. The phrases stand in the order of the
+// numbers, from 0 on, a line each.
 pub fn reason(number: u32, out: &mut [u8]) -> usize
     ensures answer { λ r. ⌜ r ≡ min (length (phraseAt number)) (length (now (out .entry))) ⌝ }
     ensures cells { λ _. ⌜ now (out .exit) ≡ front (phraseAt number) (now (out .entry)) ⌝ }

@@ -1,4 +1,5 @@
--- Document 01, 'PSID and RSID': 'Tests in this order; the first that applies answers.' So for every ordered list of tests.
+-- Document 01, 'PSID and RSID': 'Tests in this order; the first that applies answers.' So for every ordered
+-- list of tests.
 -- Test, test a reason beside the condition under which it applies
 -- firstOf    what a list of tests comes to: the number of the first that applies
 -- None       none of a list of tests applies
@@ -6,7 +7,7 @@
 -- tested     the verdict after one more test, for code that makes its tests one by one
 use Prim.Native.Nat.{ℕ}
 use mathlib.Core.Path.{_≡_}
-use mathlib.Core.Bool.{Bool, true, false, cond}
+use mathlib.Core.Bool.{Bool, false, cond}
 use mathlib.Core.List.{List, [], _∷_}
 use Rattle.refusals.specs.declared.Verdict.{Verdict}
 use Rattle.refusals.specs.declared.Verdict.the-variants.{Passed, Failed}

@@ -1,5 +1,5 @@
-// What a refused call answers: the numbers of document 01's table 'What comes back' by name, a refusal with its place,
-// and the verdict of tests made in order.
+// What a refused call answers: the numbers of document 01's table 'What comes back' by name, a refusal with
+// its place, and the verdict of tests made in order.
 ghost use mathlib.Core.Path.{_≡_};
 ghost use Rattle.refusals.specs.Numbers.{unplaced};
 ghost use Rattle.refusals.specs.Tests.{tested};

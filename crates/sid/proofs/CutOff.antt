@@ -1,5 +1,5 @@
--- A file longer than any that is accepted may be cut off: from 65,663 bytes on, the first of them give the answer of them all.
--- So a program may read the first 66,000 bytes of its input and no more.
+-- A file longer than any that is accepted may be cut off: from 65,663 bytes on, the first of them give the
+-- answer of them all. So a program may read the first 66,000 bytes of its input and no more.
 -- cut-off   the law
 use Prim.Native.Nat.{ℕ, _+_, _-_, _<_, _≤_}
 use mathlib.Core.Path.{_≡_, refl, sym, _∙_}

@@ -1,7 +1,8 @@
 -- Document 01, 'What comes back' and 'PSID and RSID': what reading a PSID or RSID file comes back with.
 -- told         the paper's number and values for each case of an answer
 -- sidOutcome   the first of 1 to 13 that applies, else the header
--- Passing, passing, toldTested, testedOutcome   the same with the fields and the payload that the header is made of, for code that needs no texts
+-- Passing, passing, toldTested, testedOutcome   the same with the fields and the payload that the header is
+--                                               made of, for code that needs no texts
 -- headed       such an outcome with its header made
 use Prim.Native.Nat.{ℕ}
 use mathlib.Core.List.{List}

@@ -1,7 +1,9 @@
--- A file is accepted exactly when none of 1 to 13 applies to it. Laws of reading and of the parts of an accepted file.
+-- A file is accepted exactly when none of 1 to 13 applies to it. Laws of reading and of the parts of an
+-- accepted file.
 -- header                         what a file says of itself, accepted or not
 -- none-accepted, accepted-none   'accepted exactly when no listed refusal applies'
--- told-once                      no two answers are told alike: an equation of `told` leaves the answer no freedom
+-- told-once                      no two answers are told alike: an equation of `told` leaves the answer no
+--                                freedom
 -- headed-guarded, read-headed    what tests come to, with the header made, is what the call comes to
 -- accepted-header                the header of an accepted file
 -- accepted-fits                  its payload lies within the 65,536 cells

@@ -1,5 +1,5 @@
-// PSID and RSID files, versions 1 and 2, read: tested, and what an accepted file says of itself. Every call answers for every
-// file; none has a requires.
+// PSID and RSID files, versions 1 and 2, read: tested, and what an accepted file says of itself. Every call
+// answers for every file; none has a requires.
 ghost use mathlib.Core.Path.{_≡_};
 ghost use Rattle.sid.specs.Answers.{told, sidOutcome, toldTested, testedOutcome};
 use fields::Span;
@@ -18,9 +18,9 @@ pub enum Kind {
     Rsid,
 }
 
-// What an accepted file says of itself. load and init are the effective addresses; start is the start song, 1 where the
-// file has 0; basic is flag bit 1 (BASIC in an RSID, PlaySID-specific in a PSID), clock bits 2-3, model bits 4-5; page
-// and pages are start page and page length.
+// What an accepted file says of itself. load and init are the effective addresses; start is the start song, 1
+// where the file has 0; basic is flag bit 1 (BASIC in an RSID, PlaySID-specific in a PSID), clock bits 2-3,
+// model bits 4-5; page and pages are start page and page length.
 pub struct Header {
     pub kind: Kind,
     pub version: u16,
@@ -57,7 +57,8 @@ pub enum Tested {
 pub fn test(file: &[u8]) -> Tested
     ensures { λ r. ⌜ toldTested r ≡ testedOutcome (now (file .entry)) ⌝ }
 {
-    // the first test by itself: past it the compiler knows that the header is there, and leaves out a check at each byte
+    // the first test by itself: past it the compiler knows that the header is there, and leaves out a check
+    // at each byte
     if file.len() < SHORTEST {
         return Tested::Refused(Refusal::unplaced(refusals::TOO_SHORT));
     }

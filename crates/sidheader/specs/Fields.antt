@@ -1,8 +1,9 @@
--- Source 003, 'The SID file header v1' and 'v2', and document 01, 'PSID and RSID': the header's fields, big-endian, at their offsets.
+-- Source 003, 'The SID file header v1' and 'v2', and document 01, 'PSID and RSID': the header's fields,
+-- big-endian, at their offsets.
 -- psid, rsid            the magic of each kind, 0x50534944 or 0x52534944
 -- added                 a field that version 2 adds: 'Version 1 takes flags, page bytes and that word as 0'
 -- fieldsOf              the fields of a file
--- basic, clock, model   the flag bits taken apart as in 003: bit 1 (BASIC in an RSID), bits 2 and 3, bits 4 and 5
+-- basic, clock, model   flag bits as in 003: bit 1 (BASIC in an RSID), bits 2 and 3, bits 4 and 5
 use Prim.Native.Nat.{ℕ, _/_, _%_}
 use mathlib.Core.List.{List}
 use mathlib.Core.Bool.{Bool, cond}

@@ -1,5 +1,5 @@
--- Document 01, 'PSID and RSID', test 9: 'With load field 0 the first two data bytes, low byte first, are the load address and the
--- payload follows them.' With another load field the data are the payload.
+-- Document 01, 'PSID and RSID', test 9: 'With load field 0 the first two data bytes, low byte first, are the
+-- load address and the payload follows them.' With another load field the data are the payload.
 -- addressed   the data begin with their own load address
 -- after       the payload that follows its address
 -- whole       the payload that is the data whole

@@ -1,5 +1,5 @@
-// The fields of a PSID or RSID header as they stand in the file, where the payload lies, and the effective init. Nothing is
-// tested here.
+// The fields of a PSID or RSID header as they stand in the file, where the payload lies, and the effective
+// init. Nothing is tested here.
 ghost use mathlib.Core.Path.{_≡_};
 ghost use Prim.Native.Nat.{_-_};
 ghost use Rattle.sidheader.specs.Fields.{added, fieldsOf};

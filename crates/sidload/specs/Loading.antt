@@ -1,5 +1,6 @@
 -- Document 01, 'What comes back' and 'PSID and RSID': loading a file into memory.
--- loadOutcome   '40, 41 and 42 are tested before the file': 40 where memory is not 65,536 bytes, then the file's own
+-- loadOutcome   '40, 41 and 42 are tested before the file': 40 where memory is not 65,536 bytes, then the
+--               file's own
 -- putOutcome    the same with the fields and the payload that the header is made of
 -- filled        what an outcome puts into memory
 -- memoryAfter   'Loading leaves every cell but the payload's as it stood'; a refusal 'changes no lent memory'

@@ -1,4 +1,4 @@
-// A PSID or RSID file loaded into memory. The call answers for every file and every memory; it has no requires.
+// A PSID or RSID file loaded into memory. The call answers for every file and memory; it has no requires.
 ghost use mathlib.Core.Path.{_≡_};
 ghost use lib.ListN.{length};
 ghost use Rattle.sid.specs.Answers.{told, toldTested};
@@ -28,7 +28,8 @@ pub fn put_payload(file: &[u8], memory: &mut [u8]) -> Tested
     }
 }
 
-// Loads a file: puts its payload into the 65,536 cells of memory, and nothing else. A refusal changes no cell.
+// Loads a file: puts its payload into the 65,536 cells of memory, and nothing else.
+// A refusal changes no cell.
 pub fn load(file: &[u8], memory: &mut [u8]) -> Reading
     ensures answer { λ r. ⌜ told r ≡ loadOutcome (now (file .entry)) (length (now (memory .entry))) ⌝ }
     ensures cells { λ _. ⌜ now (memory .exit) ≡ memoryAfter (now (file .entry)) (now (memory .entry)) ⌝ }

@@ -1,5 +1,5 @@
-// The title, author, released text and payload of a PSID or RSID file, each as a part of the lent bytes. Every call answers
-// for every file; none has a requires.
+// The title, author, released text and payload of a PSID or RSID file, each as a part of the lent bytes.
+// Every call answers for every file; none has a requires.
 ghost use mathlib.Core.Path.{_≡_};
 ghost use Rattle.fields.specs.Parts.{partOf};
 ghost use Rattle.sidparts.specs.Pieces.{spanOf, pieceIn, titleIn, authorIn, releasedIn, payloadIn};

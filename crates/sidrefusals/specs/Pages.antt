@@ -28,8 +28,8 @@ reservedPage n = between 0x00 0x03 n || between 0xA0 0xBF n || between 0xD0 0xFF
 abbrev pub unstated : Fields → Bool
 unstated x = eqb (x .page) 0 || eqb (x .page) 0xFF
 
--- 13: start page 0 or $FF with page length not 0; any other start page with length 0, with start + length above 256, or with a page
--- that the payload touches; for RSID also pages $00-$03, $A0-$BF, $D0-$FF
+-- 13: start page 0 or $FF with page length not 0; any other start page with length 0, with start + length
+-- above 256, or with a page that the payload touches; for RSID also pages $00-$03, $A0-$BF, $D0-$FF
 unfoldable pub badPages : Fields → Payload → Bool
 badPages x p =
     unstated x && not (eqb (x .pages) 0)

@@ -1,4 +1,5 @@
--- Document 01, 'PSID and RSID': 'Speed of song n is bit n-1 of the speed field, bit 31 for n above 32; songs run from 1.'
+-- Document 01, 'PSID and RSID': 'Speed of song n is bit n-1 of the speed field, bit 31 for n above 32; songs
+-- run from 1.'
 -- toldSpeed      the paper's number and values for each case of an answer
 -- speedBit       the bit
 -- songSpeed      a song's speed, after the reading of its file

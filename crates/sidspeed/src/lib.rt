@@ -1,4 +1,4 @@
-// The speed of a song of a PSID or RSID file. The call answers for every file and every number; it has no requires.
+// The speed of a song of a PSID or RSID file. The call answers for every file and number; it has no requires.
 ghost use mathlib.Core.Path.{_≡_};
 ghost use Prim.Native.Nat.{_-_, min};
 ghost use Rattle.sidspeed.specs.Speed.{toldSpeed, speedBit, speedOutcome};

@@ -1,7 +1,9 @@
--- A tune is taken apart, and `sidparts::part` is called on its file and on one of its places: the walk that `title`, `author`, `released` and `payload` share, over the part's name.
--- Adapted from the toolchain's example `reader`, the proof of `next`. Here the place is a struct of its own, the result a slice, and the field that is copied is given by the part's name.
--- The struct is Copy: what it owns is had three times. One copy is kept whole for the exit; of the others what the file owns and what the place owns go to the callee, beside the lifetime's token, which comes back.
--- Assumes nothing.
+-- A tune is taken apart, and `sidparts::part` is called on its file and on one of its places: the walk that
+-- `title`, `author`, `released` and `payload` share, over the part's name. Adapted from the toolchain's
+-- example `reader`, the proof of `next`. Here the place is a struct of its own, the result a slice, and the
+-- field that is copied is given by the part's name. The struct is Copy: what it owns is had three times. One
+-- copy is kept whole for the exit; of the others what the file owns and what the place owns go to the callee,
+-- beside the lifetime's token, which comes back. Assumes nothing.
 use mathlib.Core.Path.{_≡_, refl}
 use Prim.Native.Nat.{ℕ, zero, _+_}
 use mathlib.Core.List.{List, [], _∷_}
@@ -234,7 +236,8 @@ module _ {M : Type 1} (𝓤 : URA M) (H : Heap 𝓤) (A : Atoms 𝓤) (W : Given
   walks C Λ fm known = walked 𝓤 H A title.ended stayed (promised 𝓤 H A mem run p) (WpFn 𝓤 H C Λ (taking p)) (λ κs. (LL.vals (T.the-type (namedLft 1 0 tt κs)) (T′.the-laws (namedLft 1 0 tt κs)), tt)) (λ κs. (LL.tells (T.the-type (namedLft 1 0 tt κs)) (T′.the-laws (namedLft 1 0 tt κs)), tt))
       (λ κs qs bounds a g are. via 𝓤 _ (fst∗ 𝓤 _ (emp 𝓤)) (walk 𝓤 H A W mem run (κs .0) (qs .0) (a .0) p C Λ fm known (LL.lawful (T.the-type (namedLft 1 0 tt κs)) (T′.the-laws (namedLft 1 0 tt κs)) 𝓤 H A W .typed (a .0) _ (are .0) .0)))
 
--- the theorem of such a function: its key runs as the code above, in tables in which `sidparts::part` is itself, and what its contract ensures follows from what the walk shows
+-- the theorem of such a function: its key runs as the code above, in tables in which `sidparts::part` is
+-- itself, and what its contract ensures follows from what the walk shows
 pub taken : {M : Type 1} (𝓤 : URA M) (H : Heap 𝓤) (𝓜 : Model 𝓤 H) (𝓖 : GhostRules 𝓤 H) (𝓡 : Running 𝓤 H 𝓜) (p : Piece) (E : Ensures 𝓤 H (𝓖 .A) (𝓜 .mem) (𝓡 .run))
     → ((κs : Lfts 1) (a : Args title.signature κs) (g : Unit {0}) (r : RefT (List ℕ)) (ws : Lasts title.ended κs a) → ent 𝓤 (fact 𝓤 (now r ≡ partOf (now (a .0 .file)) (placeIn (a .0) p))) (E κs a g r (atExit title.ended κs a ws)))
     → (γ : Env) (k : Name) → Closed 𝓤 H (tables 𝓤 H 𝓜 𝓡 γ .C) (tables 𝓤 H 𝓜 𝓡 γ .Λ) k (taking p) → γ #sidparts·part ≡ part-def.routine

@@ -1,10 +1,14 @@
--- A part of a tune is a part of the lent bytes, and of an accepted file's tune it is the part that the papers name.
+-- A part of a tune is a part of the lent bytes, and of an accepted file's tune it is the part that the papers
+-- name.
 -- place-span     a part lies where the header says
 -- shown-piece    of an accepted file, each part is the one that `sid` hands out
--- texts-shown    of an accepted file, the texts are the paper's: the first 31 bytes, cut before the first zero
+-- texts-shown    of an accepted file, the texts are the paper's: the first 31 bytes, cut before the first
+--                zero
 -- payload-shown  and the payload has as many bytes as its header says
--- same-bytes     where the file lies in memory says nothing: of the same bytes and the same header the parts are the same
--- part-length    whatever the place, by hand or not: of its bytes those that lie in the file, so none where it begins past the end
+-- same-bytes     where the file lies in memory says nothing: of the same bytes and the same header the parts
+--                are the same
+-- part-length    whatever the place, by hand or not: of its bytes those that lie in the file, so none where
+--                it begins past the end
 -- part-byte      byte i of a part is byte i of the file from the part's first byte on
 use Prim.Native.Nat.{ℕ, _+_, _-_, _<_, min}
 use mathlib.Core.Path.{_≡_, refl, subst, _∙_}

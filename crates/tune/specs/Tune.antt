@@ -1,4 +1,5 @@
--- Document 01, 'PSID and RSID': 'An accepted file is shown as one thing whose title, author, released text and payload are each a part of the lent bytes'.
+-- Document 01, 'PSID and RSID': 'An accepted file is shown as one thing whose title, author, released text
+-- and payload are each a part of the lent bytes'.
 -- tuneOf    that one thing, of a file and its accepted header
 -- placeIn   where a part lies in it, by the part's name
 use Prim.Native.Nat.{ℕ}

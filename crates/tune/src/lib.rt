@@ -1,6 +1,6 @@
-// A PSID or RSID file as one thing: the lent file with where its title, author, released text and payload lie in it. The
-// struct holds a reference, so the functions over it are few and thin: each takes it apart and leaves the work to
-// `sidparts`.
+// A PSID or RSID file as one thing: the lent file with where its title, author, released text and payload lie
+// in it. The struct holds a reference, so the functions over it are few and thin: each takes it apart and
+// leaves the work to `sidparts`.
 // `shown` has plain parameters: who calls it meets no such struct.
 ghost use mathlib.Core.Path.{_≡_};
 ghost use Rattle.fields.specs.Parts.{partOf};
@@ -10,7 +10,8 @@ use fields::Span;
 use sid::Header;
 use sidparts::Piece;
 
-// The file as it was lent, and where its parts lie. It may be made by hand: a part has of its place the bytes in the file.
+// The file as it was lent, and where its parts lie. It may be made by hand: a part has of its place the bytes
+// in the file.
 pub struct Tune<'a> {
     pub file: &'a [u8],
     pub title: Span,

@@ -1,4 +1,5 @@
--- `copy_to` meets its contract. The invariant: the first j bytes are in place, and memory has its length. Assumes nothing.
+-- `copy_to` meets its contract. The invariant: the first j bytes are in place, and memory has its length.
+-- Assumes nothing.
 use Prim.Native.Nat.{_≤_, _-_}
 use mathlib.Core.Path.{_≡_, refl}
 use native.Mathlib.Numerals.{add-one}

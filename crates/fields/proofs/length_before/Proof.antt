@@ -1,4 +1,5 @@
--- `length_before` meets its contract. The invariant: what is counted and what is still to be counted make the length. Assumes nothing.
+-- `length_before` meets its contract. The invariant: what is counted and what is still to be counted make the
+-- length. Assumes nothing.
 use Prim.Native.Nat.{_≤_, _-_}
 use native.Mathlib.Omega.{arith}
 use lib.ListN.{length}

@@ -1,4 +1,5 @@
--- `start_of` meets its contract. The invariant: what is gone through and where the part begins in the rest make the place. Assumes nothing.
+-- `start_of` meets its contract. The invariant: what is gone through and where the part begins in the rest
+-- make the place. Assumes nothing.
 use Prim.Native.Nat.{_≤_, _-_}
 use native.Mathlib.Omega.{arith}
 use lib.ListN.{length}

@@ -1,7 +1,8 @@
--- `of` meets its contract: a walk of its MIR, by hand. A tune is made of the file passed and of four places of the header passed, in the result's local.
--- Adapted from the toolchain's example `reader`, the proof of `new`. Here the fields beside the slice come out of a second parameter: the header's facts tell what each of its places owns.
--- A `&[u8]` is Copy, so what it owns is had twice: once for file at exit, and once inside the result.
--- Assumes nothing.
+-- `of` meets its contract: a walk of its MIR, by hand. A tune is made of the file passed and of four places
+-- of the header passed, in the result's local. Adapted from the toolchain's example `reader`, the proof of
+-- `new`. Here the fields beside the slice come out of a second parameter: the header's facts tell what each
+-- of its places owns. A `&[u8]` is Copy, so what it owns is had twice: once for file at exit, and once inside
+-- the result. Assumes nothing.
 use mathlib.Core.Path.{_≡_, refl}
 use Prim.Native.Nat.{ℕ}
 use mathlib.Core.List.{List, [], _∷_}
@@ -87,7 +88,7 @@ module _ {M : Type 1} (𝓤 : URA M) (H : Heap 𝓤) (A : Atoms 𝓤) (W : Given
         qed W ((‵ (flft κ q) ⊛ ‵ ftrue) ∷ ‵ (owns (ShrSlice (named 0) κ u8 ∷ Hd.the-row ∷ []) (s, (h, tt)) at) ∷ []) ∵
         suffices ! _ (ends-at 𝓤 H A of.ended stayed (of.clauses 𝓤 H A mem run) W (((κ, tt), (q, tt), tt, (s, (h, tt)), at), tt) (T′.lowered made) made (tt, (tt, tt)) (tt, (tt, tt))) $ says ! is-tune $
         frame ! $ fsplit ! $ use1 W (‵ Own ⊛ ‵ Own) (shr-slice-copy 𝓤 H A W (named 0) κ u8 .twice s (v ∷ [])) $ split ! $ move ! (0 ∷ 2 ∷ []) $ fjoin ! $ frame ! $
-        -- [what file owns]: with the facts of each place, what the fields own together is what the struct owns
+        -- [what file owns]: with the facts of each place, the fields own together what the struct owns
         nothing ! $ owned ! Sp.the-row (Is Sp.the-row) (LL.makes Sp.the-type Sp′.the-plain 𝓤 H A) (h .payload) _ (facts .1 .1 .1) $ fjoin ! $
         owned ! Sp.the-row (Is Sp.the-row) (LL.makes Sp.the-type Sp′.the-plain 𝓤 H A) (h .released) _ (facts .1 .1 .0) $ fjoin ! $
         owned ! Sp.the-row (Is Sp.the-row) (LL.makes Sp.the-type Sp′.the-plain 𝓤 H A) (h .author) _ (facts .1 .0) $ fjoin ! $

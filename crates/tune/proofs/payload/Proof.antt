@@ -1,4 +1,5 @@
--- `payload` meets its contract: what the walk of `Taken` shows at its part is what the contract ensures. Assumes nothing.
+-- `payload` meets its contract: what the walk of `Taken` shows at its part is what the contract ensures.
+-- Assumes nothing.
 use contract.Monad.{fact-mono}
 use contract.Running.{tablesOf}
 use Rattle.sidparts.specs.declared.Piece.the-variants.{Payload}

@@ -1,7 +1,9 @@
--- `shown` meets its contract: a walk of its MIR, by hand. The tune that `of` returns is held in a local, and the part's name says which of the four functions it is passed to.
--- Adapted from the toolchain's example `reader`, the proof of `first`, and for the match from its example `got`, the proof of `peek`. All that the proof knows of the five functions is that each meets its contract.
--- The four arms differ in the function called and in the local that the tune is copied to; once that local is given up they go on alike (`landed`).
--- Assumes nothing.
+-- `shown` meets its contract: a walk of its MIR, by hand. The tune that `of` returns is held in a local, and
+-- the part's name says which of the four functions it is passed to. Adapted from the toolchain's example
+-- `reader`, the proof of `first`, and for the match from its example `got`, the proof of `peek`. All that the
+-- proof knows of the five functions is that each meets its contract. The four arms differ in the function
+-- called and in the local that the tune is copied to; once that local is given up they go on alike
+-- (`landed`). Assumes nothing.
 use mathlib.Core.Path.{_≡_, refl, ap, _∙_}
 use Prim.Native.Nat.{ℕ}
 use mathlib.Core.List.{List, [], _∷_}
@@ -184,12 +186,14 @@ module _ {M : Type 1} (𝓤 : URA M) (H : Heap 𝓤) (A : Atoms 𝓤) (W : Given
         (room (slice erased) l₅ (tune (full Pc′.mir l₃ (x p) (full Hd′.mir l₂ w
         (full (slice (named 0)) l₁ v (room (slice (named 0)) l₀ [])))))))))
 
-    -- what follows the call of an arm: its result is stored and copied into the function's own, which is returned, and the locals are freed
+    -- what follows the call of an arm: its result is stored and copied into the function's own, which is
+    -- returned, and the locals are freed
     landed : (p : Piece) (t : Tune) (u : Val) → t ≡ tuneOf s h → (u′ : Val) → Sq W (raw (Handing 𝓤 H A mem run p .post (to p t u) u′) ∷ ‵ (Kept p) ∷ Locals (full (T′.mir erased) l₄ u) p) (settles E (place 5 []) u′ (Then p))
     landed p t u e u′ =
         use1 W (later (some (λ (r : RefT (List ℕ)). (token ⊛ ‵ (OwnSlice r u′)) ⊛ raw (ensured 𝓤 H A title.ended (promised 𝓤 H A mem run p) (κ, tt) (t, tt) tt r)))) (id⊢ 𝓤 _) $ await ! tt $ pick ! (λ r.
         split ! $ move ! (1 ∷ []) $ use1 W (raw (fact 𝓤 (now r ≡ partOf (now (t .file)) (placeIn t p)))) (clause 𝓤 H A title.ended (κ, tt) (t, tt) _) $ heard ! (now r ≡ partOf (now (t .file)) (placeIn t p)) (λ e′. split ! $ move ! (1 ∷ []) $
-        -- [the result; the token; what the parameters own; room for _9; …; room for _5; …; _4; …; _1; …; room for _0; …]
+        -- [the result; the token; what the parameters own; room for _9; …; room for _5; …; _4; …; _1; …; room
+        -- for _0; …]
         peeks ! (ShrSlice (named 0) κ u8) (Is (ShrSlice (named 0) κ u8)) (shows 𝓤 H A (ShrSlice (named 0) κ u8)) r (u′ ∷ []) (λ is.
         land-last ! (from ! (stop !)) (init ! 11 refl (shr-slice-lawful 𝓤 H A W erased κ u8 .typed r _ is .0)) $ exec ! C Λ E body.t-3 (atRet E (Post p)) $
         assigns ! (of-opd ! (load ! (from ! (stop !)) (look ! 11 refl))) (from ! (stop !)) (init ! 21 refl (shr-slice-lawful 𝓤 H A W (named 0) κ u8 .typed r _ is .0)) $
@@ -198,7 +202,8 @@ module _ {M : Type 1} (𝓤 : URA M) (H : Heap 𝓤) (A : Atoms 𝓤) (W : Given
         move ! (11 ∷ 12 ∷ []) $ free1 ! $ move ! (9 ∷ 10 ∷ []) $ free1 ! $ move ! (7 ∷ 8 ∷ []) $ free1 ! $ move ! (5 ∷ 6 ∷ []) $ free1 ! $ move ! (3 ∷ 4 ∷ []) $ free1 ! $ free0 ! $
         by ! (exits p r u′ (e′ ∙ (ap (λ (t : Tune). partOf (now (t .file)) (placeIn t p)) e ∙ ap (partOf (now s)) (place-span s h p)))))))
 
-    -- the match, by cases on the part's name: the tag is then a numeral, and what is left computes to the arm that runs
+    -- the match, by cases on the part's name: the tag is then a numeral, and what is left computes to the arm
+    -- that runs
     matched : (p : Piece) (t : Tune) (u : Val) → t ≡ tuneOf s h → Holds (hasTy (T′.mir erased) u) × WT u → Sq W (‵ (OwnTune t u) ∷ token ∷ ‵ (Kept p) ∷ Locals (full (T′.mir erased) l₄ u) p) (runs C Λ E body.s-2 (Then p))
     matched Title t u e typed =
         switches-on ! (load ! (from ! (vrt ! refl (fld ! refl (stop !)))) (look-tag ! 15 (whole !))) $ exec ! C Λ E (hands Title 6) (Then Title) $
@@ -224,7 +229,8 @@ module _ {M : Type 1} (𝓤 : URA M) (H : Heap 𝓤) (A : Atoms 𝓤) (W : Given
         calls-at ! fm (Of 𝓤 H A mem run) known-of to-of (and-then ! (load ! (from ! (stop !)) (look ! 18 refl)) (and-then ! (load ! (from ! (stop !)) (look ! 16 refl)) (no-more !))) (λ u.
         use1 W (later (some (λ (t : Tune). (token ⊛ ‵ (OwnTune t u)) ⊛ raw (ensured 𝓤 H A of.ended (of.clauses 𝓤 H A mem run) (κ, tt) (s, (h, tt)) tt t)))) (id⊢ 𝓤 _) $ await ! tt $ pick ! (λ t.
         split ! $ move ! (1 ∷ []) $ use1 W (raw (fact 𝓤 (t ≡ tuneOf s h))) (clause 𝓤 H A of.ended (κ, tt) (s, (h, tt)) _) $ heard ! (t ≡ tuneOf s h) (λ e. split ! $ move ! (1 ∷ []) $
-        -- [what the tune owns; the token; what the parameters own; room for _9; …; room for _4; …; _3; …; _2; …; _1; …; room for _0; …]
+        -- [what the tune owns; the token; what the parameters own; room for _9; …; room for _4; …; _3; …; _2;
+        -- …; _1; …; room for _0; …]
         peeks ! (TuneRow (κ, tt)) (Is (TuneRow (κ, tt))) (shows 𝓤 H A (TuneRow (κ, tt))) t (u ∷ []) (λ is.
         land ! (from ! (stop !)) (init ! 13 refl (LL.lawful (T.the-type (erasedLft κ)) (T′.the-laws (erasedLft κ)) 𝓤 H A W .typed t _ is .0)) $
         first ! $ matched p t u e (LL.lawful (T.the-type (erasedLft κ)) (T′.the-laws (erasedLft κ)) 𝓤 H A W .typed t _ is .0)))))
