@@ -1,4 +1,5 @@
--- In a voice in order each DEF's number comes to what that DEF's body comes to, whatever is made of bodies; for walks that meet the DEFs one by one.
+-- In a voice in order each DEF's number comes to what that DEF's body comes to, whatever is made of bodies;
+-- for walks that meet the DEFs one by one.
 -- Meant         so for each DEF in a body, where of k is what number k comes to
 -- flat-meant    a body without a DEF has none to speak of
 -- meant, voice-meant   so for a body in order, and for a voice

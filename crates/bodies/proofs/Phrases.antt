@@ -1,9 +1,12 @@
--- In a voice whose DEFs and CALs are in order a CAL stands for the body of the one DEF of its number, whatever is made of bodies.
+-- In a voice whose DEFs and CALs are in order a CAL stands for the body of the one DEF of its number,
+-- whatever is made of bodies.
 -- closed-more, closed-kept   a number that is closed stays closed
 -- flat-closes, flat-none     a body without a DEF closes no number and defines none
 -- fresh                      a number that is closed is not defined again
--- keep, agree                what a closed number comes to stays, and a body comes to the same by what is closed before and in it
--- the-one                    a number that a body closes has one DEF in it, and comes to what that DEF's body comes to
+-- keep, agree                what a closed number comes to stays, and a body comes to the same by what is
+--                            closed before and in it
+-- the-one                    a number that a body closes has one DEF in it, and comes to what that DEF's body
+--                            comes to
 -- call-stands                so for each CAL of a voice
 use Prim.Native.Nat.{ℕ}
 use mathlib.Core.Path.{_≡_, refl, sym, ap, _∙_, subst}
@@ -65,7 +68,7 @@ fresh k K (repeat n i r) o h = rw (fresh k K i (o .0) h) (fresh k (closes K i) r
 fresh k K (phrase j i r) o h = rw (apart k j K h (o .0), flat-none k i (o .1)) (fresh k (also j K) r (o .3) (closed-more k j K h))
 fresh k K (call j r) o h = fresh k K r (o .1) h
 
--- a number that is open behind a body was open before it, and is not defined in it
+-- a number that is open after a body was open before it, and is not defined in it
 open-before : (k : ℕ) (K : ℕ → Bool) (b : Body) → closes K b k ≡ false → K k ≡ false
 open-before k K b h = cases (K k) (λ e. absurd (differ (sym h ∙ closed-kept k K b e))) (λ e. e)
 

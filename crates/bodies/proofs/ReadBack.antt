@@ -1,5 +1,7 @@
--- The bodies of a voice written out again are its stored pairs; no event in them is HED, TAL, DEF, END or CAL.
--- read-back     a voice whose bodies are shut, HED n, its body, TAL; DEF k, its body, END; .., is its stored pairs
+-- The bodies of a voice written out again are its stored pairs; no event in them is HED, TAL, DEF, END or
+-- CAL.
+-- read-back     a voice whose bodies are shut, HED n, its body, TAL; DEF k, its body, END; .., is its stored
+--               pairs
 -- Plain, Plains, events-plain   each event's kind is neither HED, TAL, DEF, END nor CAL
 use Prim.Native.Nat.{ℕ, _+_}
 use mathlib.Core.Path.{_≡_, refl, sym, ap, _∙_, subst}

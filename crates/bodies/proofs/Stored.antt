@@ -2,7 +2,7 @@
 -- length-pairs        a voice of n bytes has n / 2 pairs
 -- pairs-from, pairs-cons, pairs-end   the pairs from a number on
 -- plain-event         what is plain is an event
--- open-cons, open-end   what is open at a pair, from what is open behind it
+-- open-cons, open-end   what is open at a pair, from what is open after it
 -- event-at, hlt-at, bad-at, hed-at, tal-at, def-at, end-at, cal-at   so for each kind of pair
 use Prim.Native.Nat.{ℕ, zero, suc, _+_, _*_, _/_, _<_, _≤_}
 use mathlib.Core.Path.{_≡_, refl, ap, _∙_}

@@ -1,16 +1,19 @@
--- Document 01, 'Playing a voice': 'The played-out voice is made from the stored pairs alone. .. TAL closes the last HED still open, END the open DEF;
--- the body is the pairs between.'
+-- Document 01, 'Playing a voice': 'The played-out voice is made from the stored pairs alone. .. TAL closes
+-- the last HED still open, END the open DEF; the body is the pairs between.'
 -- Event       an event: the number of its pair in the voice, and what the pair means
 -- Closer      what a body ends with: its TAL, its END, or the voice's end
 -- Body        a body: events, repeats, phrases and calls in stored order, up to its closer
 -- inner, outer   of the bodies that are still open, the innermost, and those around it
 -- eventAt     an event by its pair's number and meaning
--- joined      a pair put before the bodies that are open behind it: HED and DEF take the innermost as their own body, and go on in the
---             one around it; TAL and END begin a body from its end. HLT, and a pair that means nothing, count among the events here
+-- joined      a pair put before the bodies that are open after it: HED and DEF take the innermost as their
+--             own body, and go on in the one around it; TAL and END begin a body from its end. HLT, and a
+--             pair that means nothing, count among the events here
 -- bodies      the bodies open at the first of some pairs, innermost first
 -- bodyOf      a voice as one body
--- Piece, piece, pieces   a stored pair as what it is to the structure: an event, or HED n, TAL, DEF k, END, CAL k
--- written     a body written out again, as the paper words it: HED n, its body, TAL; DEF k, its body, END; CAL k
+-- Piece, piece, pieces   a stored pair as what it is to the structure: an event, or HED n, TAL, DEF k, END,
+--                        CAL k
+-- written     a body written out again, as the paper words it: HED n, its body, TAL; DEF k, its body, END;
+--             CAL k
 use Prim.Native.Nat.{ℕ, _+_}
 use mathlib.Core.List.{List, [], _∷_, _++_}
 use Rattle.meaning.specs.declared.Meaning.{Meaning}

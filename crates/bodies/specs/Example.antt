@@ -1,8 +1,10 @@
--- Document 01, 'Playing a voice', on two voices worked out by hand: the order of the events, how many they are, pairs walked and depth.
+-- Document 01, 'Playing a voice', on two voices worked out by hand: the order of the events, how many they
+-- are, pairs walked and depth.
 -- numbers    the pair numbers of events
 -- bench      voice 1 of the 28 bytes of 'Sums on the bench': 0 TEM, 1 HED 3, 2 a note, 3 TAL, 4 HLT
 -- reel       0 a note, 1 DEF 1, 2 a note, 3 a note, 4 END, 5 HED 2, 6 CAL 1, 7 a note, 8 TAL, 9 HLT
--- bench-played, reel-played   what they come to: the reel walks 1 + (2 + 2) + (1 + 2 × ((2 + 2) + 1 + 1)) + 1 pairs, and is a call in a repeat deep
+-- bench-played, reel-played   what they come to: the reel walks 1 + (2 + 2) + (1 + 2 × ((2 + 2) + 1 + 1)) + 1
+--                             pairs, and is a call in a repeat deep
 use Prim.Native.Nat.{ℕ}
 use mathlib.Core.Path.{_≡_, refl}
 use mathlib.Core.List.{List, [], _∷_, map}

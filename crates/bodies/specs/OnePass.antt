@@ -1,5 +1,6 @@
--- A body read in stored order, each phrase's value kept when its END is met and looked up at each CAL. For code that plays nothing out;
--- proofs/OnePass.antt shows that in an accepted voice it comes to what Playing.antt defines.
+-- A body read in stored order, each phrase's value kept when its END is met and looked up at each CAL. For
+-- code that plays nothing out; proofs/OnePass.antt shows that in an accepted voice it comes to what
+-- Playing.antt defines.
 -- Read      what a body comes to, and what the phrases closed by then do
 -- reading   a body, where of k is what the phrase k closed before it comes to
 use Prim.Native.Nat.{ℕ}

@@ -1,8 +1,10 @@
--- Document 01, 'Playing a voice': what a voice that 30 does not refuse has shown of its bodies, for the laws about them.
+-- Document 01, 'Playing a voice': what a voice that 30 does not refuse has shown of its bodies, for the laws
+-- about them.
 -- also          the numbers closed by END, and one more
--- closes        the numbers closed behind a body, where some are closed before it
+-- closes        the numbers closed after a body, where some are closed before it
 -- Flat          no DEF stands in a body
--- Ordered       'DEF in DEF; a number defined twice in the voice; CAL of a number not yet closed by END': none of these
+-- Ordered       'DEF in DEF; a number defined twice in the voice; CAL of a number not yet closed by END':
+--               none of these
 -- Shut          each HED is closed by a TAL, each DEF by an END, and the body itself by a closer
 -- definitions   the bodies of the DEFs with a number, in stored order
 -- Called        a CAL with a number stands in a body

@@ -25,7 +25,7 @@ pub record Closing (v : List (Outcome Meaning)) (i : ℕ) : Type 0 where
   pub closer : Closer
   pub closes : openAt v i ≡ done closer ∷ openAt v (i + 1)
 
--- a pair as what it is to the bodies: what is open at it, from what is open behind it
+-- a pair as what it is to the bodies: what is open at it, from what is open after it
 abbrev pub IsPart : List ℕ → ℕ → Part → Type 0
 IsPart bs i Plain = openAt (pairs bs) i ≡ event (eventAt i (pairAt bs i)) (inner (openAt (pairs bs) (i + 1))) ∷ outer (openAt (pairs bs) (i + 1))
 IsPart bs i (Repeat n) =

@@ -1,13 +1,17 @@
--- Document 01, 'Playing a voice': the played-out voice, its events, the pairs walked and the depth, by recursion over bodies.
--- Interpretation   what a body's parts come to: nothing more, an event, a repeat, a DEF where it stands and a CAL, each before the rest of the body
+-- Document 01, 'Playing a voice': the played-out voice, its events, the pairs walked and the depth, by
+-- recursion over bodies.
+-- Interpretation   what a body's parts come to: nothing more, an event, a repeat, a DEF where it stands and a
+--                  CAL, each before the rest of the body
 -- interpret        what a body comes to, where of k is what the body of DEF k comes to
 -- learn, phrases   what the bodies of the DEFs in a body come to, by number, each where it is defined
 -- phrasesOf        so for a whole voice
 -- ofVoice          what a voice comes to, its CALs by its DEFs: 'CAL k gives one copy of the body of DEF k'
 -- copies           'n copies of the body played out, one behind the other'
--- playing, played  'An event gives itself. HED n, its body and its TAL give n copies .. DEF k, its body and its END give one copy. CAL k gives one copy'
+-- playing, played  'An event gives itself. HED n, its body and its TAL give n copies .. DEF k, its body and
+--                  its END give one copy. CAL k gives one copy'
 -- eventsOf         'events': how many the played-out voice has
--- walking, walkedOf   'Pairs walked: ordinary pair 1; repeat 1 + n × (body + 1); DEF to END, body + 2; CAL, body + 2'
+-- walking, walkedOf   'Pairs walked: ordinary pair 1; repeat 1 + n × (body + 1); DEF to END, body + 2; CAL,
+--                     body + 2'
 -- nesting, depthOf    'Depth counts repeats and calls in progress at once'
 use Prim.Native.Nat.{ℕ, zero, suc, _+_, _*_, max}
 use mathlib.Core.List.{List, [], _∷_, _++_}

@@ -1,4 +1,5 @@
--- Document 01, 'MUS container' and 'Playing a voice': a voice is its stored pairs, and each pair is what it means.
+-- Document 01, 'MUS container' and 'Playing a voice': a voice is its stored pairs, and each pair is what it
+-- means.
 -- pairs    the pairs of a voice's bytes in stored order, each as its meaning, or 27 or 28
 -- bytesAt  the bytes of the pair with a number, counted from 0
 -- pairAt   what that pair means

@@ -1,4 +1,5 @@
-// The stored pairs of a voice by number, and what each is to the bodies, for crates of ours; the definitions of bodies are in specs/.
+// The stored pairs of a voice by number, and what each is to the bodies; the definitions of bodies are in
+// specs/.
 ghost use mathlib.Core.Path.{_≡_};
 ghost use Prim.Native.Nat.{_+_, _*_, _<_};
 ghost use lib.ListN.{length};
@@ -33,7 +34,8 @@ pub fn kind_at(voice: &[u8], i: usize) -> Kind
     kind::kind_of(pair.first, pair.second)
 }
 
-// internal: whether pair number i of a voice's bytes passes tests that only events pass. Loops over pairs ask this first.
+// internal: whether pair number i of a voice's bytes passes tests that only events pass. Loops over pairs ask
+// this first.
 pub fn plain_at(voice: &[u8], i: usize) -> bool
     requires { ⌜ 2 * i + 1 < length (now voice) ⌝ }
     ensures { λ r. ⌜ r ≡ plainAt (now (voice .entry)) i ⌝ }
@@ -42,7 +44,8 @@ pub fn plain_at(voice: &[u8], i: usize) -> bool
     kind::is_plain(pair.first, pair.second)
 }
 
-// What a pair is to the bodies: an event, a HED with its number of passes, a DEF or a CAL with its number, or a TAL or END.
+// What a pair is to the bodies: an event, a HED with its number of passes, a DEF or a CAL with its number, or
+// a TAL or END.
 pub enum Part {
     Plain,
     Repeat(u16),

@@ -1,5 +1,5 @@
 -- The stop at 1,048,577 never shows: what is counted is the defined count, up to there.
--- cap-mul         n times a count, behind the stop
+-- cap-mul         n times a count, with the stop
 -- events-capped, walked-capped, depth-same   the counts of a voice and the definitions
 -- total-voice     the reading of a whole voice in one pass
 -- too-deep, too-long, within   what follows for 32, for 33 and for what is reported

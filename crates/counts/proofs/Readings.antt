@@ -1,6 +1,8 @@
 -- A body read in one pass, pair by pair: the loop of the recursive reading.
--- Sum             its invariant: what the rest of the body comes to, behind the counts so far, is what the whole body comes to
--- sum-start, step, joined, sum-end   its start, a step over a part of the body, one that joins the part's counts, and its end
+-- Sum             its invariant: what the rest of the body comes to, after the counts so far, is what the
+--                 whole body comes to
+-- sum-start, step, joined, sum-end   its start, a step over a part of the body, one that joins the part's
+--                                    counts, and its end
 -- running         the counts so far leave room for more
 -- event-step, call-step, repeat-step, phrase-step   the steps of each kind of pair
 -- deeper, call-deep, repeat-deep, none-deep, phrase-deep   where the allowance is too small
@@ -20,7 +22,7 @@ use Rattle.counts.specs.declared.Extent.{Extent}
 use Rattle.tally.specs.Sums.{join, none, more, passes, standing, again}
 use Rattle.counts.specs.Counting.{counting}
 use Rattle.tally.specs.Small.{Small, Running, coded}
-use Rattle.counts.specs.Measures.{heldIn, Cells, readAt, Measures}
+use Rattle.counts.specs.Measures.{heldIn, Cells, readAt, Ready, Measures}
 use Rattle.counts.proofs.Kept.{keep-held}
 use Rattle.tally.proofs.Sums.{join-assoc, none-join, more-join, small-join}
 
@@ -34,6 +36,8 @@ pub record Sum (bs cells₀ : List ℕ) (c from : ℕ) (sum : Counts) (at : ℕ)
   pub walked : sum .walked ≤ 1048577 + at
   pub low : sum .depth ≤ c
   pub cells-ready : Cells cells
+  pub short : length bs ≤ 65536
+  pub allowed : c ≤ 16
 
 -- counts of a body have stopped where they should
 none-total : (held : ℕ → Counts) (b : Body) → join none (reading counting held b .total) ≡ reading counting held b .total
@@ -44,30 +48,32 @@ none-total held (repeat n i r) = none-join _ _
 none-total held (phrase k i r) = none-join _ _
 none-total held (call k r) = none-join _ _
 
-pub sum-start : (bs cells : List ℕ) (c from : ℕ) (sum : Counts) → sum ≡ none → from ≤ length bs / 2 → Cells cells → Sum bs cells c from sum from cells
+pub sum-start : (bs cells : List ℕ) (c from : ℕ) (sum : Counts) → sum ≡ none → Ready bs cells c from → Sum bs cells c from sum from cells
 unfolding readAt
-sum-start bs cells c from sum e h s =
+sum-start bs cells c from sum e r =
     rw e
     record {
       later = omega arith;
-      inside = omega arith;
+      inside = omega (arith, r .inside);
       closes = refl;
       total = none-total (heldIn cells) (bodyAt (pairs bs) from);
       phrases = refl;
       events = omega arith;
       walked = omega arith;
       low = omega arith;
-      cells-ready = s;
+      cells-ready = r .cells-ready;
+      short = r .short;
+      allowed = r .low;
     }
 
-module _ (bs cells₀ : List ℕ) (c from : ℕ) (sum : Counts) (at : ℕ) (cells : List ℕ) (s : Sum bs cells₀ c from sum at cells) (low : c ≤ 16) where
+module _ {bs cells₀ : List ℕ} {c from : ℕ} {sum : Counts} {at : ℕ} {cells : List ℕ} (s : Sum bs cells₀ c from sum at cells) where
   -- at most an event for each pair went without the stop
-  pub running : length bs ≤ 65536 → Running sum
-  running h =
+  pub running : Running sum
+  running =
       record {
-        events = omega (arith, s .events, s .inside);
-        walked = omega (arith, s .walked, s .inside);
-        depth = omega (arith, s .low);
+        events = omega (arith, s .events, s .inside, s .short);
+        walked = omega (arith, s .walked, s .inside, s .short);
+        depth = omega (arith, s .low, s .allowed);
       }
 
   -- a part of the body goes by, and then the rest is that of next
@@ -87,6 +93,8 @@ module _ (bs cells₀ : List ℕ) (c from : ℕ) (sum : Counts) (at : ℕ) (cell
         walked = walked;
         low = deep;
         cells-ready = ready;
+        short = s .short;
+        allowed = s .allowed;
       }
 
   -- the same where the part's counts are joined
@@ -96,7 +104,7 @@ module _ (bs cells₀ : List ℕ) (c from : ℕ) (sum : Counts) (at : ℕ) (cell
       → readAt bs (heldIn cells) at .phrases ≡ readAt bs (heldIn cells′) next .phrases
       → part .depth ≤ c → Cells cells′ → sum′ ≡ join sum part → Sum bs cells₀ c from sum′ next cells′
   joined sum′ part next cells′ l i closes total phrases deep ready e =
-      let small = small-join sum part (omega (arith, s .low)) (omega arith) in
+      let small = small-join sum part (omega (arith, s .low, s .allowed)) (omega (arith, s .allowed)) in
       step sum′ next cells′ l i closes (rw e (join-assoc sum part (readAt bs (heldIn cells′) next .total) ∙ ap (join sum) (sym total))) phrases
       (rw e (omega (arith, small .events))) (rw e (omega (arith, small .walked))) (rw e (unfold join in omega (arith, s .low))) ready
 
@@ -197,7 +205,7 @@ module _ (bs cells₀ : List ℕ) (c from : ℕ) (sum : Counts) (at : ℕ) (cell
         closes = sym (s .closes) ∙ o;
         later = l;
         inside = i;
-        small = subst Small (sym e) (small-join sum none (omega (arith, s .low)) (omega arith));
+        small = subst Small (sym e) (small-join sum none (omega (arith, s .low, s .allowed)) (omega arith));
         low = rw e (unfold join in omega (arith, s .low));
         cells-ready = s .cells-ready;
       }

@@ -1,4 +1,5 @@
--- Document 01, 'Playing a voice': events, pairs walked and depth of a body counted together, by the sums of crates/tally/specs/Sums.antt.
+-- Document 01, 'Playing a voice': events, pairs walked and depth of a body counted together, by the sums of
+-- crates/tally/specs/Sums.antt.
 -- counting   the counts of a body
 use Rattle.bodies.specs.Playing.{Interpretation}
 use Rattle.tally.specs.declared.Counts.{Counts}

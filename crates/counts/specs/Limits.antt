@@ -1,5 +1,7 @@
--- Document 01, 'MUS container' and 'Playing a voice': 'then 32, then 33', and what acceptance reports of a voice.
--- limitTests     32: 'Depth counts repeats and calls in progress at once: at most 16'; 33: 'Pairs walked .. At most 1,048,576'
+-- Document 01, 'MUS container' and 'Playing a voice': 'then 32, then 33', and what acceptance reports of a
+-- voice.
+-- limitTests     32: 'Depth counts repeats and calls in progress at once: at most 16'; 33: 'Pairs walked ..
+--                At most 1,048,576'
 -- unlessOff      a verdict's number, or what else there is
 -- countOutcome   the first of them that applies to a voice, or its events and pairs walked
 use mathlib.Core.List.{List, [], _∷_}

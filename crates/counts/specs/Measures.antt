@@ -3,7 +3,8 @@
 -- Cells            the cells hold small counts
 -- readAt           the rest of the innermost body at a pair, read in one pass
 -- Ready            what a reading may count on
--- Measures         what it says of a body that is not too deep: its counts, the pair that closes it, and what the cells hold then
+-- Measures         what it says of a body that is not too deep: its counts, the pair that closes it, and what
+--                  the cells hold then
 -- Right            and of one that is: it is deeper than is allowed
 use Prim.Native.Nat.{ℕ, _+_, _/_, _<_, _≤_}
 use mathlib.Core.Path.{_≡_}

@@ -1,4 +1,4 @@
-// Depth, events and pairs walked of a voice, for crates of ours: one pass over its stored pairs, nothing played.
+// Depth, events and pairs walked of a voice: one pass over its stored pairs, nothing played.
 ghost use mathlib.Core.Path.{_≡_};
 ghost use Prim.Native.Nat.{_≤_};
 ghost use lib.ListN.{length};
@@ -21,8 +21,8 @@ enum Measured {
     TooDeep,
 }
 
-// The counts of the body from a pair on. The cells hold the counts of each phrase closed before it, and then also of those
-// closed in it. Repeats and calls may be in progress allowance deep.
+// The counts of the body from a pair on. The cells hold the counts of each phrase closed before it, and then
+// also of those closed in it. Repeats and calls may be in progress allowance deep.
 fn measure(voice: &[u8], cells: &mut [u64; 24], allowance: u32, from: usize) -> Measured
     requires { ⌜ Ready (now voice) (now cells) allowance from ⌝ }
     ensures { λ r. ⌜ Right (now (voice .entry)) (now (cells .entry)) allowance from (now (cells .exit)) r ⌝ }
@@ -82,7 +82,8 @@ pub enum Counted {
     Off(u32),
 }
 
-// internal: 32, then 33, of a voice that 27 to 31 do not refuse; else how many events and pairs walked it has.
+// internal: 32, then 33, of a voice that 27 to 31 do not refuse; else how many events and pairs walked it
+// has.
 pub fn count_voice(voice: &[u8]) -> Counted
     requires { ⌜ (length (now voice) ≤ 65536) × Sound (pairs (now voice)) ⌝ }
     ensures { λ r. ⌜ r ≡ countOutcome (pairs (now (voice .entry))) ⌝ }

@@ -1,6 +1,6 @@
-// Internal: the pairs of a voice as a walk over it meets them, and where it goes on after one that is no event. A repeat in
-// progress is kept as the number of its HED times 256 and the passes that are left, this one included; a call as the number of
-// its CAL times 256.
+// Internal: the pairs of a voice as a walk over it meets them, and where it goes on after one that is no
+// event. A repeat in progress is kept as the number of its HED times 256 and the passes that are left, this
+// one included; a call as the number of its CAL times 256.
 ghost use mathlib.Core.Path.{_≡_};
 ghost use Prim.Native.Nat.{_+_, _*_, _/_, _<_, _≤_};
 ghost use lib.ListN.{length};
@@ -60,14 +60,14 @@ fn kept(at: usize, passes: u16) -> u32
     at as u32 * 256 + passes as u32
 }
 
-// The number of the pair behind the HED or CAL that is kept.
+// The number of the pair after the HED or CAL that is kept.
 fn behind(frame: u32) -> usize
     ensures { λ r. ⌜ r ≡ frame / 256 + 1 ⌝ }
 {
     (frame / 256) as usize + 1
 }
 
-// TAL: back behind its HED while passes are left, else on.
+// TAL: back to the pair after its HED while passes are left, else on.
 fn close_repeat(place: Place, frames: &mut [u32; 16]) -> Place
     requires { ⌜ (0 < place .depth) × (place .depth ≤ 16) × (place .at < 32768) ⌝ }
     ensures { λ r. ⌜ (r ≡ tal place (now (frames .entry))) × (now (frames .exit) ≡ talFrames place (now (frames .entry))) ⌝ }
@@ -88,7 +88,7 @@ fn close_repeat(place: Place, frames: &mut [u32; 16]) -> Place
     }
 }
 
-// END: behind the CAL if a call is innermost, else on.
+// END: to the pair after the CAL if a call is innermost, else on.
 fn close_phrase(place: Place, frames: &[u32; 16]) -> Place
     requires { ⌜ (place .depth ≤ 16) × (place .at < 32768) ⌝ }
     ensures { λ r. ⌜ r ≡ end place (now (frames .entry)) ⌝ }
@@ -115,8 +115,8 @@ fn close_phrase(place: Place, frames: &[u32; 16]) -> Place
     }
 }
 
-// internal: the place after a pair that makes bodies. HED and CAL are kept as in progress. body is where the body that a CAL
-// stands for begins; no other pair asks for it.
+// internal: the place after a pair that makes bodies. HED and CAL are kept as in progress. body is where the
+// body that a CAL stands for begins; no other pair asks for it.
 pub fn go_on(m: Move, place: Place, body: usize, frames: &mut [u32; 16]) -> Place
     requires { ⌜ Ready m place ⌝ }
     ensures { λ r. ⌜ (r ≡ placeAfter m place body (now (frames .entry))) × (now (frames .exit) ≡ framesAfter m place (now (frames .entry))) ⌝ }

@@ -1,4 +1,5 @@
-// Where the bodies of DEFs begin, noted as a walk comes by. A walk that finds them in another way needs none of this.
+// Where the bodies of DEFs begin, noted as a walk comes by. A walk that finds them in another way needs none
+// of this.
 ghost use mathlib.Core.Path.{_≡_};
 ghost use Prim.Native.Nat.{_<_};
 ghost use Rattle.moves.specs.Moves.{BoundedMove};

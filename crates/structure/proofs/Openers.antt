@@ -1,6 +1,7 @@
 -- The two counts and the number that the code keeps, as the openers that they stand for.
 -- last-hed, last-def, any-def, any-open   what the tests ask of the openers, asked of the counts
--- event-on, hed-off, hed-on, tal-off, tal-on, def-off, def-on, end-off, end-on, cal-off, cal-on, hlt-off, hlt-on   each step of the code
+-- event-on to hlt-on   each step of the code, on or off: event-on, hed-off, hed-on, tal-off, tal-on, def-off,
+--                      def-on, end-off, end-on, cal-off, cal-on, hlt-off, hlt-on
 use Prim.Native.Nat.{ℕ, zero, suc, _+_, _-_, _<_, _≤_}
 use mathlib.Core.Path.{_≡_, refl, sym}
 use mathlib.Core.Bool.{Bool, true, false, not, _&&_, _||_, cond}

@@ -1,4 +1,5 @@
--- A voice that none of 27 to 31 refuses is one body, its DEFs and CALs are in order, and each opener is closed by its own closer.
+-- A voice that none of 27 to 31 refuses is one body, its DEFs and CALs are in order, and each opener is
+-- closed by its own closer.
 -- sound   so, from the tests of each pair
 use Prim.Native.Nat.{ℕ, _+_}
 use mathlib.Core.Path.{_≡_, refl, sym, _∙_, subst}
@@ -30,7 +31,7 @@ pub record Fits (K : ℕ → Bool) (os : List Opener) (b : Body) : Type 0 where
   pub ordered : Ordered K b
   pub shut : Shut (closerOf os) b
 
--- what is closed behind the body that was opened last
+-- what is closed after the body that was opened last
 abbrev left : Opener → (ℕ → Bool) → ℕ → Bool
 left byHed K = K
 left (byDef k) K = also k K
@@ -92,7 +93,7 @@ module _ (K : ℕ → Bool) (bs : List Body) where
   unfolding Chain inner outer closes Flat Ordered Shut
   end-chain k os c = (record { flat = λ h. tt; ordered = tt; shut = refl }, c)
 
--- a pair that 30 does not refuse: from what is open behind it to what is open at it
+-- a pair that 30 does not refuse: from what is open after it to what is open at it
 step-chain : (e : bodies.Event) (z : Kind) (os : List Opener) (K : ℕ → Bool) (bs : List Body) → None (nestingTests z (record { openers = os; closed = K }))
     → Chain (after z (record { openers = os; closed = K }) .closed) (openersAfter z os) bs → Chain K os (joined e z bs)
 unfolding joined
@@ -109,7 +110,7 @@ step-chain e (Cal k) os K bs t c = call-chain K bs k (not-false (K k) (t .0)) os
 step-chain e Hlt os K bs t c = event-chain K bs e os c
 step-chain e (Bad n) os K bs t c = event-chain K bs e os c
 
--- nothing is open behind the last pair, which is HLT
+-- nothing is open after the last pair, which is HLT
 last-shut : (z : Kind) (o : Nesting) → None (pairTests z true) → None (nestingTests z o) → any (openersAfter z (o .openers)) ≡ false
 last-shut Event o p n = absurd (differ (sym (p .1 .1 .0)))
 last-shut (Hed k) o p n = absurd (differ (sym (p .1 .1 .0)))

@@ -1,4 +1,5 @@
--- Document 01, 'MUS container': 'within a voice first 27 to 29 pair by pair (at one pair the lower number), then 30 and 31 pair by pair'.
+-- Document 01, 'MUS container': 'within a voice first 27 to 29 pair by pair (at one pair the lower number),
+-- then 30 and 31 pair by pair'.
 -- foundAt, firstAt     tests pair by pair: the first that applies, with the number of its pair
 -- isLast               whether no pair is left
 -- pairsTests           27 to 29 for each pair of a voice

@@ -1,11 +1,13 @@
--- How the code keeps what is open: two counts and a number. For the contracts of its functions; the definitions themselves are in Tests.antt.
+-- How the code keeps what is open: two counts and a number. For the contracts of its functions; the
+-- definitions themselves are in Tests.antt.
 -- heds        so many HEDs before what else is open
 -- openersOf   the openers that the two counts and the number stand for
 -- known       what is closed, where only one number is asked for
 -- numberIn    the number of a DEF or a CAL
 -- Few         bounds of the counts
--- Moves       what is open behind a pair
--- Stepped     what a step says: 30 and 31 pass and what is open and closed behind the pair, or which of them applies
+-- Moves       what is open after a pair
+-- Stepped     what a step says: 30 and 31 pass and what is open and closed after the pair, or which of them
+--             applies
 use Prim.Native.Nat.{ℕ, zero, suc, _+_, _<_, _≤_}
 use mathlib.Core.Path.{_≡_}
 use mathlib.Core.Bool.{Bool, cond}

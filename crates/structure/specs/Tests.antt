@@ -4,14 +4,15 @@
 -- pairTests         27 to 29, 'at one pair the lower number'
 -- Opener            what a body was opened by: a HED, or a DEF with its number
 -- Nesting           at a pair: the openers still open, the last one first, and the numbers closed by END
--- lastHed, lastDef, anyDef, any   whether the last opener still open is a HED, is a DEF; whether a DEF is open, whether anything is
+-- lastHed, lastDef, anyDef, any   whether the last opener still open is a HED, is a DEF; whether a DEF is
+--                                 open, whether anything is
 -- misplaced         30, case by case
 -- hedOfZero         'HED 0 is 31'
 -- nestingTests      30 and 31
 -- rest              the openers without the last one
--- openersAfter      what is open behind a pair: 'TAL closes the last HED still open, END the open DEF'
--- closedBy, closedAfter   the numbers closed behind an END, and behind a pair
--- after             what is open and closed behind a pair
+-- openersAfter      what is open after a pair: 'TAL closes the last HED still open, END the open DEF'
+-- closedBy, closedAfter   the numbers closed after an END, and after a pair
+-- after             what is open and closed after a pair
 -- start             what is open and closed before the first pair: nothing
 use Prim.Native.Nat.{ℕ}
 use mathlib.Core.Bool.{Bool, true, false, not, _||_, cond}
@@ -83,7 +84,8 @@ any (o ∷ os) = true
 abbrev pub misplaced : Kind → Nesting → Bool
 misplaced Event o = false
 misplaced (Hed n) o = false
--- 'TAL without a HED still open and, in an open DEF, opened inside it': the last opener is a DEF, or there is none
+-- 'TAL without a HED still open and, in an open DEF, opened inside it': the last opener is a DEF, or there is
+-- none
 misplaced Tal o = not (lastHed (o .openers))
 -- 'DEF in DEF; a number defined twice in the voice'
 misplaced (Def k) o = anyDef (o .openers) || o .closed k

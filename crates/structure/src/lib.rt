@@ -1,4 +1,4 @@
-// The tests 27 to 31 of a voice, for crates of ours: two passes over its stored pairs, nothing played.
+// The tests 27 to 31 of a voice: two passes over its stored pairs, nothing played.
 ghost use mathlib.Core.Path.{_≡_};
 ghost use Prim.Native.Nat.{_≤_};
 ghost use lib.ListN.{length};
@@ -11,7 +11,8 @@ use refusals::Verdict;
 mod nesting;
 mod single;
 
-// What tests made pair by pair come to: none has applied, or the first that did, by its number and its pair's number.
+// What tests made pair by pair come to: none has applied, or the first that did, by its number and its pair's
+// number.
 pub enum Finding {
     Clear,
     At(u32, usize),

@@ -7,7 +7,8 @@ ghost use Rattle.kind.specs.declared.Kind.the-variants.{Hed, Tal, Def, End};
 ghost use Rattle.structure.specs.Steps.{numberIn, Stepped};
 use kind::Kind;
 
-// The HEDs that are open in the open DEF and outside it, and that DEF's number. With no DEF open, phrase is NONE and inside counts every HED that is open.
+// The HEDs that are open in the open DEF and outside it, and that DEF's number. With no DEF open, phrase is
+// NONE and inside counts every HED that is open.
 pub struct Open {
     pub inside: usize,
     pub outside: usize,
@@ -16,7 +17,7 @@ pub struct Open {
 
 pub const NONE: usize = 24;
 
-// What a pair comes to: what is open behind it, with the number that an END closes; or a refusal's number.
+// What a pair comes to: what is open after it, with the number that an END closes; or a refusal's number.
 pub enum Step {
     On(Open),
     Closes(Open, usize),
@@ -39,7 +40,8 @@ pub fn number_of(kind: Kind) -> usize
     }
 }
 
-// internal: 30 and 31 at a pair, and what is open behind it. A DEF or CAL is given whether its number is closed.
+// internal: 30 and 31 at a pair, and what is open after it. A DEF or CAL is given whether its number is
+// closed.
 pub fn pass(kind: Kind, o: Open, closed: bool) -> Step
     requires { ⌜ (o .inside < 65536) × (o .phrase ≤ 24) × Numbered kind ⌝ }
     ensures { λ r. ⌜ Stepped kind o closed r ⌝ }

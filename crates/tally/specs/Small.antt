@@ -1,7 +1,10 @@
--- Bounds of counts, and counts in one number, for the contracts of the functions that add them up and keep them.
+-- Bounds of counts, and counts in one number, for the contracts of the functions that add them up and keep
+-- them.
 -- Small            counts that stop where they should, at most 16 deep
--- Running          counts of a body that is still being read: past the stop by its last events at most, fewer than a voice has bytes
--- coded, decoded   counts in one number, and back: events from bit 26 on, pairs walked in bits 5 to 25, depth in bits 0 to 4
+-- Running          counts of a body that is still being read: past the stop by its last events at most, fewer
+--                  than a voice has bytes
+-- coded, decoded   counts in one number, and back: events from bit 26 on, pairs walked in bits 5 to 25, depth
+--                  in bits 0 to 4
 use Prim.Native.Nat.{ℕ, _+_, _*_, _/_, _%_, _≤_}
 use Rattle.tally.specs.declared.Counts.{Counts}
 

@@ -1,6 +1,7 @@
--- Document 01, 'Playing a voice': events, pairs walked and depth counted together, as code counts them. Events and pairs walked stop at 1,048,577, one more
--- than 33 lets pass; crates/counts/proofs/Capped.antt shows that this never shows in an answer.
--- cap, join      two counts, one behind the other
+-- Document 01, 'Playing a voice': events, pairs walked and depth counted together, as code counts them.
+-- Events and pairs walked stop at 1,048,577, one more than 33 lets pass; crates/counts/proofs/Capped.antt
+-- shows that this never shows in an answer.
+-- cap, join      two counts, one after the other
 -- none, single   of nothing, and of an event
 -- more           an event more, with no stop: a voice is too short to need one at each event
 -- passes         'repeat 1 + n × (body + 1)', and one deeper

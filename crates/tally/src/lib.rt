@@ -1,6 +1,7 @@
-// Internal: counts added up. Events and pairs walked stop at 1,048,577, one more than 33 lets pass, so that no sum outgrows its
-// number; the laws of crates/counts show that the stop never shows in an answer. A plain event is the most frequent pair, and a voice has too few of them to
-// outgrow anything: they are added without the stop, which comes where counts are joined and where a body ends.
+// Internal: counts added up. Events and pairs walked stop at 1,048,577, one more than 33 lets pass, so that
+// no sum outgrows its number; the laws of crates/counts show that the stop never shows in an answer. A plain
+// event is the most frequent pair, and a voice has too few of them to outgrow anything: they are added
+// without the stop, which comes where counts are joined and where a body ends.
 ghost use mathlib.Core.Path.{_≡_};
 ghost use Prim.Native.Nat.{_<_, _≤_, max};
 ghost use Rattle.tally.specs.Sums.{cap, join, none, more, passes, standing, again};
@@ -36,7 +37,7 @@ fn greater(a: u32, b: u32) -> u32
     if a < b { b } else { a }
 }
 
-// Counts with more behind them. No sum of callers is too large for its number.
+// Counts with more after them. No sum of callers is too large for its number.
 fn with(a: Counts, b: Counts) -> Counts
     requires { ⌜ Running a × (b .events ≤ 267387391) × (b .walked ≤ 267387391) ⌝ }
     ensures { λ r. ⌜ r ≡ join a b ⌝ }

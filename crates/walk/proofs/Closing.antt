@@ -1,8 +1,8 @@
 -- TAL and END in a walk: which body they close is told by the context, which the walk has kept.
 -- differ        closers are told apart by their codes
 -- top-repeat    outside calls the innermost that is kept is a repeat
--- tal-step      TAL: one pass more, or on behind it
--- end-step      END: on behind it where the DEF stands, or behind the CAL
+-- tal-step      TAL: one pass more, or on after it
+-- end-step      END: on after it where the DEF stands, or after the CAL
 use Prim.Native.Nat.{ℕ, _+_, _-_, _*_, _/_, _%_, _<_}
 use mathlib.Core.Path.{_≡_, refl, ap, _∙_, subst}
 use mathlib.Core.Bool.{false}

@@ -1,16 +1,20 @@
--- The middle of a walk: what is in progress around the pair that comes next, and what is still to be walked and to be played.
--- Context            the repeats, DEFs where they stand and calls in progress, innermost first: a repeat with the number of its HED and the passes that are left,
---                    this one included, a call with the number of its CAL
+-- The middle of a walk: what is in progress around the pair that comes next, and what is still to be walked
+-- and to be played.
+-- Context            the repeats, DEFs where they stand and calls in progress, innermost first: a repeat with
+--                    the number of its HED and the passes that are left, this one included, a call with the
+--                    number of its CAL
 -- height             how many of them are repeats and calls; these the walk keeps
 -- inCall, closerOf   whether a call is among them; what closes the innermost
 -- Fair               a body with that closer, and in a call no DEF in it
 -- shut-fair, flat-fair   from acceptance
 -- eventsIn, pairsIn, depthIn   what a body of a voice comes to
--- later, toWalk      the events and the pairs behind the body that is being walked, by the bodies that are open around it
+-- later, toWalk      the events and the pairs after the body that is being walked, by the bodies that are
+--                    open around it
 -- Here, Around       the body that is being walked, and those around it, fit their context
 -- Kept               the walk keeps the context
 -- Passed             each HED and CAL in progress stands before pair far
--- Onward             a step that goes no further than the pair after this one, or to the body that a CAL is given
+-- Onward             a step that goes no further than the pair after this one, or to the body that a CAL is
+--                    given
 -- Stands, Start      a body that CAL k stands for, and the pair where such a body begins
 -- Goes               a CAL is given such a pair; how it was found is not said here
 -- Walking            all this at one pair of a walk, where the events es are still to come

@@ -1,6 +1,7 @@
 -- What acceptance has shown of a voice, pair by pair, as a walk meets it.
 -- IsDef       pair h is DEF k
--- Facts       HED plays its body at least once; CAL has its DEF before it; CAL k stands for the body behind DEF k
+-- Facts       HED plays its body at least once; CAL has its DEF before it; CAL k stands for the body after
+--             DEF k
 -- facts       so of each voice that none of 27 to 33 refuses
 use Prim.Native.Nat.{ℕ, zero, suc, _+_, _/_, _<_, _≤_}
 use mathlib.Core.Path.{_≡_, refl, subst}
@@ -150,7 +151,7 @@ module _ (bs : List ℕ) where
       (joined-starts (eventAt i (pairAt bs i)) (kindOf (pairAt bs i)) (openAt (pairs bs) (i + 1))
       (subst AllStarts (open-cons bs i (omega arith)) (starts-at a i (omega arith))))
 
-  -- what stands behind a DEF
+  -- what stands after a DEF
   def-stands : (i k : ℕ) → i < length bs / 2 → kindOf (pairAt bs i) ≡ Def k → AllStarts (openAt (pairs bs) i) → Start bs k (i + 1)
   unfolding joined AllStarts Starts bodyAt
   def-stands i k h e a =

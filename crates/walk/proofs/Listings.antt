@@ -1,7 +1,9 @@
--- Two lists filled in step by a walk: at each pair what is filled so far, before what is still to come, is the window asked for.
+-- Two lists filled in step by a walk: at each pair what is filled so far, before what is still to come, is
+-- the window asked for.
 -- Listing       so, of both lists
 -- listing-start, listing-end   before the first pair, and when all cells are filled
--- listing-next, listing-timed, listing-room, listing-event   a pair comes next; what an event may count on, and that it goes by
+-- listing-next                 a pair comes next
+-- listing-timed, listing-room, listing-event   what an event may count on, and that it goes by
 -- listing-ready, listing-move   the same of any other pair
 use Prim.Native.Nat.{ℕ, suc, _+_, _-_, _*_, _/_, _<_, _≤_}
 use mathlib.Core.Path.{_≡_, refl, ap, _∙_, subst}

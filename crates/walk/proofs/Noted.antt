@@ -1,4 +1,5 @@
--- Where the bodies of DEFs begin, noted on the way, so that a CAL finds the body that it stands for. A walk that finds it in another way brings its own.
+-- Where the bodies of DEFs begin, noted on the way, so that a CAL finds the body that it stands for. A walk
+-- that finds it in another way brings its own.
 -- Noted         pairs up to far have been walked, and where their DEFs' bodies begin is noted
 -- noted-start   before the first pair
 -- noted-event, noted-move   an event, and any other pair

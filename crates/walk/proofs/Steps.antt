@@ -1,4 +1,5 @@
--- Each pair of a walk that opens something, and an event: what it leaves to be walked and to be played, and that the walk goes on fitting its context.
+-- Each pair of a walk that opens something, and an event: what it leaves to be walked and to be played, and
+-- that the walk goes on fitting its context.
 -- kept-over                what is kept stays when more is kept
 -- copies-more, times-more  one copy more, one time more
 -- opened                   a body and those around it, as the first pair says

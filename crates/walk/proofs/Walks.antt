@@ -1,10 +1,12 @@
--- A walk from its first pair on: all events of the played-out voice are still to come; each pair leaves one less to walk, an event one less to play.
+-- A walk from its first pair on: all events of the played-out voice are still to come; each pair leaves one
+-- less to walk, an event one less to play.
 -- kindIn, move-kind   a move by the pair that makes it
 -- walk-start      before the first pair, with nothing in progress
 -- few-later       no more events are to come than pairs are to be walked
 -- walk-some       where an event is still to come, a pair comes next
 -- walk-event      an event goes by
--- walk-ready, walk-move   any other pair: what its move may count on, and where the walk goes on, a CAL at the body that it is given
+-- walk-ready, walk-move   any other pair: what its move may count on, and where the walk goes on, a CAL at
+--                         the body that it is given
 use Prim.Native.Nat.{ℕ, _+_, _-_, _/_, _<_, _≤_}
 use mathlib.Core.Path.{_≡_, refl, sym, ap, _∙_}
 use mathlib.Core.List.{List, [], _∷_, _++_, append-nil}
@@ -107,7 +109,7 @@ module _ (bs : List ℕ) where
         let o = outer (openAt (pairs bs) at) in
         omega (arith, w .steps, ap length (w .events), length-append (eventsIn bs b) (later bs o (w .context)), few-events b, few-later o (w .context))
 
-    -- behind the last pair nothing is in progress
+    -- after the last pair nothing is in progress
     ended : (c : Context) → closerOf c ≡ byStop → later bs [] c ≡ []
     unfolding later
     ended outermost e = refl

@@ -1,5 +1,6 @@
 -- What the walk may count on, for its contract.
--- Listable   the voice is one that acceptance let pass, and so many events from the first one asked for on are there
+-- Listable   the voice is one that acceptance let pass, and so many events from the first one asked for on
+--            are there
 use Prim.Native.Nat.{ℕ, _-_, _≤_}
 use mathlib.Core.Path.{_≡_}
 use mathlib.Core.List.{List}

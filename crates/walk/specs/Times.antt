@@ -1,5 +1,6 @@
 -- Document 01, 'Playing a voice': each event of a played-out voice with its offset and its jiffy.
--- offsetsOf    'its offset is where its pair stands in the file': of each event, where the voice's first pair stands at base
+-- offsetsOf    'its offset is where its pair stands in the file': of each event, where the voice's first pair
+--              stands at base
 -- meanings     what each event means
 -- jiffiesOf    the jiffy of each event, by the exact times of crates/clock/specs/Times.antt
 use Prim.Native.Nat.{ℕ, _+_, _*_}

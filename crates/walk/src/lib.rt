@@ -1,4 +1,4 @@
-// The walk over an accepted voice that lists its events, for crates of ours: no event is played for its sound, none is kept.
+// The walk over an accepted voice that lists its events: no event is played for its sound, none is kept.
 ghost use mathlib.Core.Path.{_≡_};
 ghost use Rattle.bodies.specs.Voice.{pairs};
 ghost use Rattle.bodies.specs.Playing.{played};
@@ -13,8 +13,9 @@ use turn::Clock;
 
 mod turn;
 
-// internal: fills the first count cells of both lists with the file offsets and jiffies of a voice's events from number first on. The voice is one that
-// acceptance let pass; base is the file offset of its first pair, walked its pairs walked. One step a pair walked, and none behind the last event asked for.
+// internal: fills the first count cells of both lists with the file offsets and jiffies of a voice's events
+// from number first on. The voice is one that acceptance let pass; base is the file offset of its first pair,
+// walked its pairs walked. One step a pair walked, and none after the last event asked for.
 pub fn list_voice(
     voice: &[u8],
     base: usize,

@@ -1,4 +1,5 @@
--- `counts::measure` meets its contract: the recursive reading of nested bodies. At each call fewer pairs remain; at each repeat the allowance falls.
+-- `counts::measure` meets its contract: the recursive reading of nested bodies. At each call fewer pairs
+-- remain; at each repeat the allowance falls.
 use Prim.Native.Nat.{ℕ, _+_, _-_, _/_, _<_}
 use mathlib.Core.Path.{sym, subst}
 use native.Mathlib.Omega.{arith}
@@ -68,7 +69,7 @@ abbrev μ-loop : lts.MeasureT-loop
 
 loop-holds : (t : ℕ) → lts.Need-loop-holds (claims t) (at t) measure.Post Inv-loop μ-loop
 loop-holds t c =
-    sum-start _ _ _ _ _ (c .nothing .ensures) (c .before .before .pre .1 .inside) (c .before .before .pre .1 .cells-ready)
+    sum-start _ _ _ _ _ (c .nothing .ensures) (c .before .before .pre .1)
 
 part-at-requires : (t : ℕ) → lts.Need-part-at-requires (claims t) (at t) measure.Post Inv-loop μ-loop
 part-at-requires t c κs =
@@ -76,11 +77,12 @@ part-at-requires t c κs =
 
 with-event-requires : (t : ℕ) → lts.Need-with-event-requires (claims t) (at t) measure.Post Inv-loop μ-loop
 with-event-requires t c κs =
-    running _ _ _ _ _ _ _ (c .before .before .before .before .loop .inv) (c .before .before .before .before .before .before .before .pre .1 .low) (c .before .before .before .before .before .before .before .pre .1 .short)
+    running (c .before .before .before .before .loop .inv)
 
 add-at : (t : ℕ) → lts.Need-add-at (claims t) (at t) measure.Post Inv-loop μ-loop
 add-at t c =
-    omega (arith, c .before .before .before .before .loop-test .taken, c .before .before .before .before .before .before .before .before .pre .1 .short)
+    let p = c .before .before .before in
+    omega (arith, p .before .loop-test .taken, p .before .before .loop .inv .short)
 
 loop-less : (t : ℕ) → lts.Need-loop-less (claims t) (at t) measure.Post Inv-loop μ-loop
 loop-less t c =
@@ -88,11 +90,13 @@ loop-less t c =
 
 loop-again : (t : ℕ) → lts.Need-loop-again (claims t) (at t) measure.Post Inv-loop μ-loop
 loop-again t c =
-    event-step _ _ _ _ _ _ _ (c .before .before .before .before .before .loop .inv) (c .before .before .before .before .before .before .before .before .pre .1 .low) _ _ (c .before .before .before .before .loop-test .taken) (subst (IsPart _ _) (c .before .enum-told .given .1) (c .before .before .before .part-at .ensures)) (c .with-event .ensures)
+    let p = c .before .before .before in
+    event-step (p .before .before .loop .inv) _ _ (p .before .loop-test .taken) (subst (IsPart _ _) (c .before .enum-told .given .1) (p .part-at .ensures)) (c .with-event .ensures)
 
 returns : (t : ℕ) → lts.Need-returns (claims t) (at t) measure.Post Inv-loop μ-loop
 returns t c =
-    repeat-deep _ _ _ _ _ _ _ (c .before .before .before .before .before .before .loop .inv) (c .before .before .before .before .before .before .before .before .before .pre .1 .low) _ ((subst (IsPart _ _) (c .before .before .times .given .1) (c .before .before .before .before .part-at .ensures)) .0) (omega (arith, c .if1 .taken))
+    let p = c .before .before .before .before in
+    repeat-deep (p .before .before .loop .inv) _ ((subst (IsPart _ _) (c .before .before .times .given .1) (p .part-at .ensures)) .0) (omega (arith, c .if1 .taken))
 
 sub-measure : (t : ℕ) → lts.Need-sub-measure (claims t) (at t) measure.Post Inv-loop μ-loop
 sub-measure t c =
@@ -100,48 +104,62 @@ sub-measure t c =
 
 add-measure : (t : ℕ) → lts.Need-add-measure (claims t) (at t) measure.Post Inv-loop μ-loop
 add-measure t c =
-    omega (arith, c .before .before .before .before .before .before .loop-test .taken, c .before .before .before .before .before .before .before .before .before .before .pre .1 .short)
+    let p = c .before .before .before .before .before in
+    omega (arith, p .before .loop-test .taken, p .before .before .loop .inv .short)
 
 measure-requires : (t : ℕ) → lts.Need-measure-requires (claims t) (at t) measure.Post Inv-loop μ-loop
 measure-requires t c κs =
-    (omega (arith, c .before .before .before .before .before .before .before .before .before .before .pre .0, c .before .before .before .before .before .before .before .loop .inv .later, c .before .before .before .before .before .before .loop-test .taken), record { short = c .before .before .before .before .before .before .before .before .before .before .pre .1 .short; inside = omega (arith, c .before .before .before .before .before .before .loop-test .taken); low = omega (arith, c .before .before .before .before .before .before .before .before .before .before .pre .1 .low); cells-ready = c .before .before .before .before .before .before .before .loop .inv .cells-ready })
+    let p = c .before .before .before .before .before in
+    (omega (arith, p .before .before .before .before .before .pre .0, p .before .before .loop .inv .later, p .before .loop-test .taken), record { short = p .before .before .loop .inv .short; inside = omega (arith, p .before .loop-test .taken); low = omega (arith, p .before .before .loop .inv .allowed); cells-ready = p .before .before .loop .inv .cells-ready })
 
 returns-2 : (t : ℕ) → lts.Need-returns-2 (claims t) (at t) measure.Post Inv-loop μ-loop
 returns-2 t c =
-    let g : c .before .before .before .before .before .before .before .before .before .before .before .before .before .args .allowance - 1 < _ = subst (Right _ _ _ _ _) (c .enum-told2 .given .1) (c .before .before .measure .ensures) in
-    repeat-deep _ _ _ _ _ _ _ (c .before .before .before .before .before .before .before .before .before .before .loop .inv) (c .before .before .before .before .before .before .before .before .before .before .before .before .before .pre .1 .low) _ ((subst (IsPart _ _) (c .before .before .before .before .before .before .times .given .1) (c .before .before .before .before .before .before .before .before .part-at .ensures)) .0) (omega (arith, c .before .before .before .before .if1 .left))
+    let q = c .before .before .before .before in
+    let p = q .before .before .before .before in
+    let g : p .before .before .before .before .before .args .allowance - 1 < _ = subst (Right _ _ _ _ _) (c .enum-told2 .given .1) (c .before .before .measure .ensures) in
+    repeat-deep (p .before .before .loop .inv) _ ((subst (IsPart _ _) (q .before .before .times .given .1) (p .part-at .ensures)) .0) (omega (arith, q .if1 .left))
 
 with-repeat-requires : (t : ℕ) → lts.Need-with-repeat-requires (claims t) (at t) measure.Post Inv-loop μ-loop
 with-repeat-requires t c κs =
+    let k = c .before .before .before .before .before .before .before in
+    let p = k .before .before in
     let g : Measures _ _ _ _ (c .before .m .given .0 .0) _ = subst (Right _ _ _ _ _) (c .before .m .given .1) (c .before .before .before .measure .ensures) in
-    (running _ _ _ _ _ _ _ (c .before .before .before .before .before .before .before .before .before .before .before .loop .inv) (c .before .before .before .before .before .before .before .before .before .before .before .before .before .before .pre .1 .low) (c .before .before .before .before .before .before .before .before .before .before .before .before .before .before .pre .1 .short), g .small, (subst (IsPart _ _) (c .before .before .before .before .before .before .before .times .given .1) (c .before .before .before .before .before .before .before .before .before .part-at .ensures)) .1)
+    (running (p .before .before .loop .inv), g .small, (subst (IsPart _ _) (k .times .given .1) (p .part-at .ensures)) .1)
 
 add-at-2 : (t : ℕ) → lts.Need-add-at-2 (claims t) (at t) measure.Post Inv-loop μ-loop
 add-at-2 t c =
-    let g : Measures _ _ _ _ (c .before .before .before .m .given .0 .0) _ = subst (Right _ _ _ _ _) (c .before .before .before .m .given .1) (c .before .before .before .before .before .measure .ensures) in
-    omega (arith, g .inside, c .before .before .before .before .before .before .before .before .before .before .before .before .before .before .before .before .pre .1 .short)
+    let m = c .before .before .before in
+    let g : Measures _ _ _ _ (m .m .given .0 .0) _ = subst (Right _ _ _ _ _) (m .m .given .1) (m .before .before .measure .ensures) in
+    omega (arith, g .inside, m .before .before .before .before .before .before .before .before .before .before .loop .inv .short)
 
 loop-less-2 : (t : ℕ) → lts.Need-loop-less-2 (claims t) (at t) measure.Post Inv-loop μ-loop
 loop-less-2 t c =
-    let g : Measures _ _ _ _ (c .before .before .before .m .given .0 .0) _ = subst (Right _ _ _ _ _) (c .before .before .before .m .given .1) (c .before .before .before .before .before .measure .ensures) in
-    omega (arith, g .inside, g .later, c .before .before .before .before .before .before .before .before .before .before .before .before .loop-test .taken)
+    let m = c .before .before .before in
+    let g : Measures _ _ _ _ (m .m .given .0 .0) _ = subst (Right _ _ _ _ _) (m .m .given .1) (m .before .before .measure .ensures) in
+    omega (arith, g .inside, g .later, m .before .before .before .before .before .before .before .before .before .loop-test .taken)
 
 loop-again-2 : (t : ℕ) → lts.Need-loop-again-2 (claims t) (at t) measure.Post Inv-loop μ-loop
 loop-again-2 t c =
-    let g : Measures _ _ _ _ (c .before .before .before .m .given .0 .0) _ = subst (Right _ _ _ _ _) (c .before .before .before .m .given .1) (c .before .before .before .before .before .measure .ensures) in
-    repeat-step _ _ _ _ _ _ _ (c .before .before .before .before .before .before .before .before .before .before .before .before .before .loop .inv) (c .before .before .before .before .before .before .before .before .before .before .before .before .before .before .before .before .pre .1 .low) _ _ _ _ ((subst (IsPart _ _) (c .before .before .before .before .before .before .before .before .before .times .given .1) (c .before .before .before .before .before .before .before .before .before .before .before .part-at .ensures)) .0) (omega (arith, c .before .before .before .before .before .before .before .if1 .left)) g (c .before .with-repeat .ensures)
+    let m = c .before .before .before in
+    let p = m .before .before .before .before .before .before .before .before in
+    let g : Measures _ _ _ _ (m .m .given .0 .0) _ = subst (Right _ _ _ _ _) (m .m .given .1) (m .before .before .measure .ensures) in
+    repeat-step (p .before .before .loop .inv) _ _ _ _ ((subst (IsPart _ _) (m .before .before .before .before .before .before .times .given .1) (p .part-at .ensures)) .0) (omega (arith, m .before .before .before .before .if1 .left)) g (c .before .with-repeat .ensures)
 
 add-measure-2 : (t : ℕ) → lts.Need-add-measure-2 (claims t) (at t) measure.Post Inv-loop μ-loop
 add-measure-2 t c =
-    omega (arith, c .before .before .before .before .before .loop-test .taken, c .before .before .before .before .before .before .before .before .before .pre .1 .short)
+    let p = c .before .before .before .before in
+    omega (arith, p .before .loop-test .taken, p .before .before .loop .inv .short)
 
 measure-requires-2 : (t : ℕ) → lts.Need-measure-requires-2 (claims t) (at t) measure.Post Inv-loop μ-loop
 measure-requires-2 t c κs =
-    (omega (arith, c .before .before .before .before .before .before .before .before .before .pre .0, c .before .before .before .before .before .before .loop .inv .later, c .before .before .before .before .before .loop-test .taken), record { short = c .before .before .before .before .before .before .before .before .before .pre .1 .short; inside = omega (arith, c .before .before .before .before .before .loop-test .taken); low = c .before .before .before .before .before .before .before .before .before .pre .1 .low; cells-ready = c .before .before .before .before .before .before .loop .inv .cells-ready })
+    let p = c .before .before .before .before in
+    (omega (arith, p .before .before .before .before .before .pre .0, p .before .before .loop .inv .later, p .before .loop-test .taken), record { short = p .before .before .loop .inv .short; inside = omega (arith, p .before .loop-test .taken); low = p .before .before .loop .inv .allowed; cells-ready = p .before .before .loop .inv .cells-ready })
 
 returns-3 : (t : ℕ) → lts.Need-returns-3 (claims t) (at t) measure.Post Inv-loop μ-loop
 returns-3 t c =
-    phrase-deep _ _ _ _ _ _ _ (c .before .before .before .before .before .before .before .before .before .loop .inv) (c .before .before .before .before .before .before .before .before .before .before .before .before .pre .1 .low) _ ((subst (IsPart _ _) (c .before .before .before .before .before .k .given .1) (c .before .before .before .before .before .before .before .part-at .ensures)) .0) (subst (Right _ _ _ _ _) (c .enum-told3 .given .1) (c .before .before .measure2 .ensures))
+    let k = c .before .before .before .before .before in
+    let p = k .before .before in
+    phrase-deep (p .before .before .loop .inv) _ ((subst (IsPart _ _) (k .k .given .1) (p .part-at .ensures)) .0) (subst (Right _ _ _ _ _) (c .enum-told3 .given .1) (c .before .before .measure2 .ensures))
 
 coded-requires : (t : ℕ) → lts.Need-coded-requires (claims t) (at t) measure.Post Inv-loop μ-loop
 coded-requires t c κs =
@@ -150,35 +168,43 @@ coded-requires t c κs =
 
 cast-cells : (t : ℕ) → lts.Need-cast-cells (claims t) (at t) measure.Post Inv-loop μ-loop
 cast-cells t c =
-    omega (arith, (subst (IsPart _ _) (c .before .before .before .before .before .before .before .k .given .1) (c .before .before .before .before .before .before .before .before .before .part-at .ensures)) .1)
+    let k = c .before .before .before .before .before .before .before in
+    omega (arith, (subst (IsPart _ _) (k .k .given .1) (k .before .before .part-at .ensures)) .1)
 
 mul-cells : (t : ℕ) → lts.Need-mul-cells (claims t) (at t) measure.Post Inv-loop μ-loop
 mul-cells t c =
-    omega (arith, (subst (IsPart _ _) (c .before .before .before .before .before .before .before .k .given .1) (c .before .before .before .before .before .before .before .before .before .part-at .ensures)) .1)
+    let k = c .before .before .before .before .before .before .before in
+    omega (arith, (subst (IsPart _ _) (k .k .given .1) (k .before .before .part-at .ensures)) .1)
 
 element-write-cells : (t : ℕ) → lts.Need-element-write-cells (claims t) (at t) measure.Post Inv-loop μ-loop
 element-write-cells t c =
-    omega (arith, (subst (IsPart _ _) (c .before .before .before .before .before .before .before .k .given .1) (c .before .before .before .before .before .before .before .before .before .part-at .ensures)) .1)
+    let k = c .before .before .before .before .before .before .before in
+    omega (arith, (subst (IsPart _ _) (k .k .given .1) (k .before .before .part-at .ensures)) .1)
 
 with-phrase-requires : (t : ℕ) → lts.Need-with-phrase-requires (claims t) (at t) measure.Post Inv-loop μ-loop
 with-phrase-requires t c κs =
-    let g : Measures _ _ _ _ (c .before .before .m2 .given .0 .0) _ = subst (Right _ _ _ _ _) (c .before .before .m2 .given .1) (c .before .before .before .before .measure2 .ensures) in
-    (running _ _ _ _ _ _ _ (c .before .before .before .before .before .before .before .before .before .before .before .loop .inv) (c .before .before .before .before .before .before .before .before .before .before .before .before .before .before .pre .1 .low) (c .before .before .before .before .before .before .before .before .before .before .before .before .before .before .pre .1 .short), g .small)
+    let m = c .before .before in
+    let g : Measures _ _ _ _ (m .m2 .given .0 .0) _ = subst (Right _ _ _ _ _) (m .m2 .given .1) (m .before .before .measure2 .ensures) in
+    (running (m .before .before .before .before .before .before .before .before .before .loop .inv), g .small)
 
 add-at-3 : (t : ℕ) → lts.Need-add-at-3 (claims t) (at t) measure.Post Inv-loop μ-loop
 add-at-3 t c =
-    let g : Measures _ _ _ _ (c .before .before .before .before .m2 .given .0 .0) _ = subst (Right _ _ _ _ _) (c .before .before .before .before .m2 .given .1) (c .before .before .before .before .before .before .measure2 .ensures) in
-    omega (arith, g .inside, c .before .before .before .before .before .before .before .before .before .before .before .before .before .before .before .before .pre .1 .short)
+    let m = c .before .before .before .before in
+    let g : Measures _ _ _ _ (m .m2 .given .0 .0) _ = subst (Right _ _ _ _ _) (m .m2 .given .1) (m .before .before .measure2 .ensures) in
+    omega (arith, g .inside, m .before .before .before .before .before .before .before .before .before .loop .inv .short)
 
 loop-less-3 : (t : ℕ) → lts.Need-loop-less-3 (claims t) (at t) measure.Post Inv-loop μ-loop
 loop-less-3 t c =
-    let g : Measures _ _ _ _ (c .before .before .before .before .m2 .given .0 .0) _ = subst (Right _ _ _ _ _) (c .before .before .before .before .m2 .given .1) (c .before .before .before .before .before .before .measure2 .ensures) in
-    omega (arith, g .inside, g .later, c .before .before .before .before .before .before .before .before .before .before .before .before .loop-test .taken)
+    let m = c .before .before .before .before in
+    let g : Measures _ _ _ _ (m .m2 .given .0 .0) _ = subst (Right _ _ _ _ _) (m .m2 .given .1) (m .before .before .measure2 .ensures) in
+    omega (arith, g .inside, g .later, m .before .before .before .before .before .before .before .before .loop-test .taken)
 
 loop-again-3 : (t : ℕ) → lts.Need-loop-again-3 (claims t) (at t) measure.Post Inv-loop μ-loop
 loop-again-3 t c =
-    let g : Measures _ _ _ _ (c .before .before .before .before .m2 .given .0 .0) _ = subst (Right _ _ _ _ _) (c .before .before .before .before .m2 .given .1) (c .before .before .before .before .before .before .measure2 .ensures) in
-    phrase-step _ _ _ _ _ _ _ (c .before .before .before .before .before .before .before .before .before .before .before .before .before .loop .inv) (c .before .before .before .before .before .before .before .before .before .before .before .before .before .before .before .before .pre .1 .low) _ _ _ _ _ ((subst (IsPart _ _) (c .before .before .before .before .before .before .before .before .before .k .given .1) (c .before .before .before .before .before .before .before .before .before .before .before .part-at .ensures)) .0) ((subst (IsPart _ _) (c .before .before .before .before .before .before .before .before .before .k .given .1) (c .before .before .before .before .before .before .before .before .before .before .before .part-at .ensures)) .1) g (c .before .before .coded .ensures) (c .before .with-phrase .ensures)
+    let m = c .before .before .before .before in
+    let p = m .before .before .before .before .before .before .before in
+    let g : Measures _ _ _ _ (m .m2 .given .0 .0) _ = subst (Right _ _ _ _ _) (m .m2 .given .1) (m .before .before .measure2 .ensures) in
+    phrase-step (p .before .before .loop .inv) _ _ _ _ _ ((subst (IsPart _ _) (m .before .before .before .before .before .k .given .1) (p .part-at .ensures)) .0) ((subst (IsPart _ _) (m .before .before .before .before .before .k .given .1) (p .part-at .ensures)) .1) g (c .before .before .coded .ensures) (c .before .with-phrase .ensures)
 
 cast-decoded : (t : ℕ) → lts.Need-cast-decoded (claims t) (at t) measure.Post Inv-loop μ-loop
 cast-decoded t c =
@@ -194,15 +220,20 @@ element-copy-out-decoded t c =
 
 returns-4 : (t : ℕ) → lts.Need-returns-4 (claims t) (at t) measure.Post Inv-loop μ-loop
 returns-4 t c =
-    call-deep _ _ _ _ _ _ _ (c .before .before .before .before .before .before .before .before .before .loop .inv) (c .before .before .before .before .before .before .before .before .before .before .before .before .pre .1 .low) _ _ ((subst (IsPart _ _) (c .before .before .before .before .before .k2 .given .1) (c .before .before .before .before .before .before .before .part-at .ensures)) .0) (c .before .before .decoded .ensures) (c .if2 .taken)
+    let k = c .before .before .before .before .before in
+    let p = k .before .before in
+    call-deep (p .before .before .loop .inv) _ _ ((subst (IsPart _ _) (k .k2 .given .1) (p .part-at .ensures)) .0) (c .before .before .decoded .ensures) (c .if2 .taken)
 
 with-call-requires : (t : ℕ) → lts.Need-with-call-requires (claims t) (at t) measure.Post Inv-loop μ-loop
 with-call-requires t c κs =
-    (running _ _ _ _ _ _ _ (c .before .before .before .before .before .before .before .before .before .loop .inv) (c .before .before .before .before .before .before .before .before .before .before .before .before .pre .1 .low) (c .before .before .before .before .before .before .before .before .before .before .before .before .pre .1 .short), subst Small (sym (c .before .before .decoded .ensures)) (c .before .before .before .before .before .before .before .before .before .loop .inv .cells-ready .small (c .before .before .before .before .before .k2 .given .0 .0)))
+    let k = c .before .before .before .before .before in
+    let p = k .before .before in
+    (running (p .before .before .loop .inv), subst Small (sym (c .before .before .decoded .ensures)) (p .before .before .loop .inv .cells-ready .small (k .k2 .given .0 .0)))
 
 add-at-4 : (t : ℕ) → lts.Need-add-at-4 (claims t) (at t) measure.Post Inv-loop μ-loop
 add-at-4 t c =
-    omega (arith, c .before .before .before .before .before .before .before .before .before .loop-test .taken, c .before .before .before .before .before .before .before .before .before .before .before .before .before .pre .1 .short)
+    let p = c .before .before .before .before .before .before .before .before in
+    omega (arith, p .before .loop-test .taken, p .before .before .loop .inv .short)
 
 loop-less-4 : (t : ℕ) → lts.Need-loop-less-4 (claims t) (at t) measure.Post Inv-loop μ-loop
 loop-less-4 t c =
@@ -210,24 +241,27 @@ loop-less-4 t c =
 
 loop-again-4 : (t : ℕ) → lts.Need-loop-again-4 (claims t) (at t) measure.Post Inv-loop μ-loop
 loop-again-4 t c =
-    call-step _ _ _ _ _ _ _ (c .before .before .before .before .before .before .before .before .before .before .loop .inv) (c .before .before .before .before .before .before .before .before .before .before .before .before .before .pre .1 .low) _ _ _ (c .before .before .before .before .before .before .before .before .before .loop-test .taken) ((subst (IsPart _ _) (c .before .before .before .before .before .before .k2 .given .1) (c .before .before .before .before .before .before .before .before .part-at .ensures)) .0) (c .before .before .before .decoded .ensures) (omega (arith, c .before .if2 .left)) (c .with-call .ensures)
+    let k = c .before .before .before .before .before .before in
+    let p = k .before .before in
+    call-step (p .before .before .loop .inv) _ _ _ (p .before .loop-test .taken) ((subst (IsPart _ _) (k .k2 .given .1) (p .part-at .ensures)) .0) (c .before .before .before .decoded .ensures) (omega (arith, c .before .if2 .left)) (c .with-call .ensures)
 
 settled-requires : (t : ℕ) → lts.Need-settled-requires (claims t) (at t) measure.Post Inv-loop μ-loop
 settled-requires t c κs =
-    running _ _ _ _ _ _ _ (c .before .before .before .before .loop .inv) (c .before .before .before .before .before .before .before .pre .1 .low) (c .before .before .before .before .before .before .before .pre .1 .short)
+    running (c .before .before .before .before .loop .inv)
 
 returns-5 : (t : ℕ) → lts.Need-returns-5 (claims t) (at t) measure.Post Inv-loop μ-loop
 returns-5 t c =
-    let closing = subst (IsPart _ _) (c .before .enum-told4 .given .1) (c .before .before .before .part-at .ensures) in
-    close-end _ _ _ _ _ _ _ (c .before .before .before .before .before .loop .inv) (c .before .before .before .before .before .before .before .before .pre .1 .low) _ (closing .closer) (c .settled .ensures) (c .before .before .before .before .loop-test .taken) (closing .closes)
+    let p = c .before .before .before in
+    let closing = subst (IsPart _ _) (c .before .enum-told4 .given .1) (p .part-at .ensures) in
+    close-end (p .before .before .loop .inv) _ (closing .closer) (c .settled .ensures) (p .before .loop-test .taken) (closing .closes)
 
 settled-requires-2 : (t : ℕ) → lts.Need-settled-requires-2 (claims t) (at t) measure.Post Inv-loop μ-loop
 settled-requires-2 t c κs =
-    running _ _ _ _ _ _ _ (c .before .loop .inv) (c .before .before .before .before .pre .1 .low) (c .before .before .before .before .pre .1 .short)
+    running (c .before .loop .inv)
 
 returns-6 : (t : ℕ) → lts.Need-returns-6 (claims t) (at t) measure.Post Inv-loop μ-loop
 returns-6 t c =
-    stop-end _ _ _ _ _ _ _ (c .before .before .loop .inv) (c .before .before .before .before .before .pre .1 .low) _ (c .settled2 .ensures) (omega (arith, c .before .loop-test .left)) (c .before .before .before .before .before .pre .1 .inside)
+    stop-end (c .before .before .loop .inv) _ (c .settled2 .ensures) (omega (arith, c .before .loop-test .left)) (c .before .before .before .before .before .pre .1 .inside)
 
 pub +measure-spec : {M : Type 1} → statement M
 +measure-spec =

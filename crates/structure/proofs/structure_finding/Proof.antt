@@ -27,16 +27,24 @@ pass-requires : tie.Need-pass-requires Inv-loop μ-loop
 pass-requires c κs = let inv = c .before .before .before .before .before .loop .inv in (omega (arith, inv .1 .few .inside, inv .0, c .before .before .before .before .before .before .before .pre), inv .1 .few .phrase, c .before .kind-at .ensures .1)
 
 returns : tie.Need-returns Inv-loop μ-loop
-returns c = (step-off _ _ _ _ (c .before .before .before .before .before .before .before .before .before .loop .inv .1) (c .before .before .before .before .before .before .before .before .loop-test .taken) (c .before .before .before .before .before .kind-at .ensures .0) (c .before .before .before .before .number-of .ensures) _ (c .before .number .given .1) (c .before .before .before .pass .ensures))
+returns c =
+    let a = c .before .before .before in
+    (step-off _ _ _ _ (a .before .before .before .before .before .before .loop .inv .1) (a .before .before .before .before .before .loop-test .taken) (a .before .before .kind-at .ensures .0) (a .before .number-of .ensures) _ (c .before .number .given .1) (a .pass .ensures))
 
 loop-again-2 : tie.Need-loop-again-2 Inv-loop μ-loop
-loop-again-2 c = (omega (arith, c .before .before .before .before .before .before .before .before .loop-test .taken), (step-on _ _ _ _ (c .before .before .before .before .before .before .before .before .before .loop .inv .1) (c .before .before .before .before .before .before .before .before .loop-test .taken) (c .before .before .before .before .before .kind-at .ensures .0) (c .before .before .before .before .number-of .ensures) _ (c .before .p .given .1) (c .before .before .before .pass .ensures)))
+loop-again-2 c =
+    let a = c .before .before .before in
+    (omega (arith, a .before .before .before .before .before .loop-test .taken), (step-on _ _ _ _ (a .before .before .before .before .before .before .loop .inv .1) (a .before .before .before .before .before .loop-test .taken) (a .before .before .kind-at .ensures .0) (a .before .number-of .ensures) _ (c .before .p .given .1) (a .pass .ensures)))
 
 array-write-closed : tie.Need-array-write-closed Inv-loop μ-loop
-array-write-closed c = (step-few _ _ _ _ (c .before .before .before .before .before .before .before .before .before .loop .inv .1) (c .before .before .before .before .before .before .before .before .loop-test .taken) (c .before .before .before .before .before .kind-at .ensures .0) (c .before .before .before .before .number-of .ensures) _ _ (c .before .p2 .given .1) (c .before .before .before .pass .ensures))
+array-write-closed c =
+    let a = c .before .before .before in
+    (step-few _ _ _ _ (a .before .before .before .before .before .before .loop .inv .1) (a .before .before .before .before .before .loop-test .taken) (a .before .before .kind-at .ensures .0) (a .before .number-of .ensures) _ _ (c .before .p2 .given .1) (a .pass .ensures))
 
 loop-again-3 : tie.Need-loop-again-3 Inv-loop μ-loop
-loop-again-3 c = (omega (arith, c .before .before .before .before .before .before .before .before .loop-test .taken), (step-closes _ _ _ _ (c .before .before .before .before .before .before .before .before .before .loop .inv .1) (c .before .before .before .before .before .before .before .before .loop-test .taken) (c .before .before .before .before .before .kind-at .ensures .0) (c .before .before .before .before .number-of .ensures) _ _ (c .before .p2 .given .1) (c .before .before .before .pass .ensures)))
+loop-again-3 c =
+    let a = c .before .before .before in
+    (omega (arith, a .before .before .before .before .before .loop-test .taken), (step-closes _ _ _ _ (a .before .before .before .before .before .before .loop .inv .1) (a .before .before .before .before .before .loop-test .taken) (a .before .before .kind-at .ensures .0) (a .before .number-of .ensures) _ _ (c .before .p2 .given .1) (a .pass .ensures)))
 
 returns-2 : tie.Need-returns-2 Inv-loop μ-loop
 returns-2 c = sym (nest-end _ _ _ _ (c .before .loop .inv .1) (omega (arith, c .loop-test .left)))

@@ -1,5 +1,5 @@
--- `walk::list_voice` meets its contract. The loop's invariant: what is filled so far, before what is still to come, is the window asked for. One pair less is to be walked
--- at each turn.
+-- `walk::list_voice` meets its contract. The loop's invariant: what is filled so far, before what is still to
+-- come, is the window asked for. One pair less is to be walked at each turn.
 use borrow.Author.Needs.{needs}
 use mathlib.Core.Path.{sym, subst, _∙_}
 use native.Mathlib.Omega.{arith}
