@@ -1,5 +1,5 @@
--- A file longer than any that is accepted may be cut off: from 65,663 bytes on, the first of them are judged as all of them. So a program may read
--- the first 66,000 bytes of a file and no more.
+-- A file longer than any that is accepted may be cut off: from 65,663 bytes on, the first of them are judged
+-- as all of them. So a program may read the first 66,000 bytes of a file and no more.
 -- judged-cut   the law
 use Prim.Native.Nat.{ℕ, _≤_, _<_}
 use mathlib.Core.Path.{_≡_, sym, _∙_}

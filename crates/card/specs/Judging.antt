@@ -1,5 +1,6 @@
 -- docs/DECISIONS.md, 'What kind a file is': told from the file's bytes alone.
--- Judgement   what a file is and comes to: accepted with what it says of itself, or refused with a number and a place
+-- Judgement   what a file is and comes to: accepted with what it says of itself, or refused with a number and
+--             a place
 -- told        what an answer says
 -- asTune      a file that begins with PSID or RSID: what document 01, 'PSID and RSID', answers
 -- asSong      any other file: a song where 21 to 24 do not apply to it as a MUS song, and else neither

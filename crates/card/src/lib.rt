@@ -1,4 +1,5 @@
-// What a file of a card is, told from its content: a PSID or RSID tune, a MUS song, or neither. The call answers for every file.
+// What a file of a card is, told from its content: a PSID or RSID tune, a MUS song, or neither. The call
+// answers for every file.
 ghost use mathlib.Core.Path.{_≡_};
 ghost use Rattle.sid.specs.Answers.{sidOutcome};
 ghost use Rattle.container.specs.Head.{headOutcome};
@@ -10,8 +11,8 @@ use refusals::Refusal;
 use sid::Header;
 use sid::Kind;
 
-// The answer to a file: a tune or a song that is accepted, one that is refused, or a file that is neither, with the refusal that a MUS reader
-// gives it.
+// The answer to a file: a tune or a song that is accepted, one that is refused, or a file that is neither,
+// with the refusal that a MUS reader gives it.
 pub enum Judged {
     Tune(Header),
     RefusedTune(Kind, Refusal),

@@ -1,8 +1,8 @@
--- Where each line of a text begins, as the lines are read one behind the other. Assumes nothing.
+-- Where each line of a text begins, as the lines are read one after the other. Assumes nothing.
 -- start-within     the lines begin within any bound of the text's start and the file, but for a byte each
--- next-start       where the line behind line i begins
+-- next-start       where the line after line i begins
 -- start1 .. start5 the same for each of five lines
--- text-read        the five lines and the byte behind them make the text
+-- text-read        the five lines and the byte after them make the text
 use Prim.Native.Nat.{ℕ, zero, suc, _+_, _<_, _≤_, _^_}
 use mathlib.Core.Path.{_≡_, refl}
 use mathlib.Core.Bool.{_&&_}

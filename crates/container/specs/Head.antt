@@ -1,11 +1,12 @@
--- Document 01, 'MUS container': 'Load address (2 bytes), three voice lengths (2 bytes each, low first), voices, text.'
--- headOf      the numbers of a file
--- badLength   'voice length 0 or odd'
--- voicesEnd   where the voices end and the text begins
--- voicesOf    where the voices lie, one after the other from byte 8 on
--- headTests   21 to 24, in the paper's order
--- toldHead    the paper's number and values for each case of an answer
--- headOutcome the first of 21 to 24 that applies, else where the voices lie
+-- Document 01, 'MUS container': 'Load address (2 bytes), three voice lengths (2 bytes each, low first),
+-- voices, text.'
+-- headOf        the numbers of a file
+-- badLength     'voice length 0 or odd'
+-- voicesEnd     where the voices end and the text begins
+-- voicesOf      where the voices lie, one after the other from byte 8 on
+-- headTests     21 to 24, in the paper's order
+-- toldHead      the paper's number and values for each case of an answer
+-- headOutcome   the first of 21 to 24 that applies, else where the voices lie
 use Prim.Native.Nat.{ℕ, _+_, _-_, _%_}
 use mathlib.Core.Bool.{Bool, _||_}
 use mathlib.Core.List.{List, [], _∷_}

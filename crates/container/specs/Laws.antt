@@ -1,10 +1,10 @@
--- A container is right exactly when none of 21 to 26 applies to its file. Laws of a file whose container is right.
+-- A container is right exactly when none of 21 to 26 applies to its file. Laws of such a file.
 -- none-layout, layout-none         'exactly when'
 -- layout-of                        the layout that is given out
 -- line-part, lines-part            the span of a line names the line, so in a layout
 -- VoiceFits                        a voice has an even number of bytes, not 0, and lies in the file
 -- HeadFits, head-fits              what 21 to 24 leave: a file of at most 65,536 bytes, and three such voices
--- head-none                        an answer with the voices: none of 21 to 24 applies, and it is where they lie
+-- head-none                        an answer with the voices is where they lie, and none of 21 to 24 applies
 -- long-head                        a file of more than 65,536 bytes is 22
 -- head-first, layout-head          21 to 24 come first; where none of 21 to 26 applies, none of 21 to 24 does
 -- short-file, voices-within, voice1-fits, ..   the same of a right container

@@ -1,4 +1,5 @@
--- Document 01, 'MUS container' and 'What comes back': where everything lies in a file, or the first of 21 to 26 that applies.
+-- Document 01, 'MUS container' and 'What comes back': where everything lies in a file, or the first of 21 to
+-- 26 that applies.
 -- placed             the voices and the lines of the text
 -- textIn             the text of a file
 -- layoutOf           where everything lies

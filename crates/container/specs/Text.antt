@@ -1,4 +1,5 @@
--- Document 01, 'MUS container': 'Text is five lines of 0 to 32 bytes other than $0D and $00, each closed by $0D, then one $00; else 25.'
+-- Document 01, 'MUS container': 'Text is five lines of 0 to 32 bytes other than $0D and $00, each closed by
+-- $0D, then one $00; else 25.'
 -- closes      $0D and $00, the bytes that no line has
 -- lineBytes   the bytes before the first of these
 -- lineAt      the line that begins at a byte of the file

@@ -1,5 +1,5 @@
--- The text in the paper's words: 25 is answered exactly where the file does not go on with five lines of 0 to 32 bytes other than
--- $0D and $00, each closed by $0D, and one $00.
+-- The text in the paper's words: 25 is answered exactly where the file does not go on with five lines of 0 to
+-- 32 bytes other than $0D and $00, each closed by $0D, and one $00.
 -- plain, goodLine   bytes other than $0D and $00, and 0 to 32 of them
 -- closedLine        a line, the $0D that closes it, and what follows
 -- textForm          five lines, each closed, a $00, and what follows

@@ -1,5 +1,5 @@
-// The container of a Sidplayer MUS file in PRG form: its numbers, its three voices and its five lines of text, each as a
-// part of the lent bytes. What the voices hold is not looked at here.
+// The container of a Sidplayer MUS file in PRG form: its numbers, its three voices and its five lines of
+// text, each as a part of the lent bytes. What the voices hold is not looked at here.
 ghost use mathlib.Core.Path.{_≡_};
 ghost use Rattle.container.specs.Head.{toldHead, headOutcome};
 ghost use Rattle.container.specs.Layout.{placed, toldLayout, containerOutcome};
@@ -11,7 +11,8 @@ use text::Text;
 mod head;
 mod text;
 
-// What the numbers at the front of a file say: its load address, where its voices lie, and where they end and the text begins.
+// What the numbers at the front of a file say: its load address, where its voices lie, and where they end and
+// the text begins.
 pub struct Voices {
     pub load: u16,
     pub voice1: Span,
@@ -45,7 +46,8 @@ pub enum Container {
     Refused(Refusal),
 }
 
-// internal: where the voices of a file lie, or the first of 21 to 24 that applies. Neither the voices nor what comes after them is looked at.
+// internal: where the voices of a file lie, or the first of 21 to 24 that applies. Neither the voices nor
+// what comes after them is looked at.
 pub fn read_head(file: &[u8]) -> Heading
     ensures { λ r. ⌜ toldHead r ≡ headOutcome (now (file .entry)) ⌝ }
 {

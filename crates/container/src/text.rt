@@ -1,4 +1,4 @@
-// The text behind the voices: its five lines, and the tests of it: 25 and 26.
+// The text after the voices: its five lines, and the tests of it: 25 and 26.
 ghost use mathlib.Core.Path.{_≡_};
 ghost use Prim.Native.Nat.{_+_, _^_, _<_};
 ghost use lib.ListN.{length};

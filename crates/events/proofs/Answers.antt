@@ -15,7 +15,7 @@ use Rattle.bodies.specs.Voice.{pairs}
 use Rattle.bodies.specs.Playing.{played, eventsOf}
 use Rattle.mus.specs.declared.Voice.{Voice}
 use Rattle.mus.specs.Asked.{voiceAsked, bytesOf}
-use Rattle.mus.specs.AskedLaws.{InSong}
+use Rattle.mus.specs.Bounds.{InSong}
 use Rattle.cells.specs.Window.{filled}
 use Rattle.walk.specs.Times.{offsetsOf, jiffiesOf}
 use Rattle.walk.specs.Bounds.{Listable}

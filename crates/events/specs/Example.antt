@@ -1,5 +1,7 @@
--- Document 01, 'Sums on the bench': the events of the 28 bytes there as the listing program prints them, by the definitions.
--- listed           a voice of the bytes, from event 0 on, in lists of seven cells that hold 90 to 96 and 80 to 86
+-- Document 01, 'Sums on the bench': the events of the 28 bytes there as the listing program prints them, by
+-- the definitions.
+-- listed           a voice of the bytes, from event 0 on, in lists of seven cells that hold 90 to 96 and 80
+--                  to 86
 -- example-listed   voices 1, 2 and 3: 5, 1 and 1 cells are filled, and the others keep what they held
 use Prim.Native.Nat.{ℕ}
 use mathlib.Core.Path.{_≡_}

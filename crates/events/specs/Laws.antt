@@ -1,6 +1,7 @@
--- Laws of a listing: when it is refused, what each cell holds after it, and how one listing goes with another.
+-- Laws of a listing: when it is refused, what each cell holds after it, and how two listings go together.
 -- told-once                     no two answers are told alike
--- voice-first, lengths-next, file-last   what a call comes to: 41 by the voice, then 42 by the lists, then what the file comes to
+-- voice-first, lengths-next, file-last   what a call comes to: 41 by the voice, then 42 by the lists, then
+--                                        what the file comes to
 -- refused-unchanged             a refusal leaves both lists as they were
 -- Answered, accepted-window     any other answer is that of the voice asked for, of an accepted file
 -- countIn                       how many of some cells a voice fills
@@ -42,7 +43,8 @@ use Rattle.events.specs.declared.Listed.{Listed}
 use Rattle.events.specs.declared.Listed.the-variants.{Count, Refused}
 use Rattle.events.specs.Listing.{callerTests, playedIn, countOf, windowIn, filledBy, listing, told}
 
--- 'An answer may be an enum. In that case, a definition gives this paper's number and values for each of the enum's cases'
+-- 'An answer may be an enum. In that case, a definition gives this paper's number and values for each of the
+-- enum's cases'
 pub told-once : (a b : Listed) → told a ≡ told b → a ≡ b
 told-once (Count m) (Count n) e = let same : m ≡ n = cc in rw same
 told-once (Count m) (Refused y) e = absurd (two-ways (sym e))
@@ -125,7 +127,8 @@ unfolding jiffiesOf
 jiffy-at es k h = jiffies-at (meanings es) k (omega (arith, length-map es (λ (e : Event). e .meaning)))
 
 module _ (f : List ℕ) (v : Voice) (first : ℕ) (os js : List ℕ) where
-  -- 'cell i of the first list holds the offset .. of the event whose number is the first one asked for plus i'
+  -- 'cell i of the first list holds the offset .. of the event whose number is the first one asked for plus
+  -- i'
   pub cell-offset : (i : ℕ) → i < countIn f v first os → getD (windowIn f v first os js .offsets) i 0 ≡ v .offset + 2 * getD (numbersOf (playedIn f v)) (first + i) 0
   cell-offset i h =
       let es = playedIn f v in

@@ -1,13 +1,18 @@
--- Document 01, 'Playing a voice': 'The listing call takes a voice and a first event number and fills two lent lists of 32-bit numbers, file offset and jiffy, until they
--- are full or the voice has ended; it returns how many, 0 past the end, and what lies beyond keeps its old content.' Demand 3 is the equation between a call and
--- listing, which is made of the played-out voice (crates/bodies/specs/Playing.antt), its exact times (crates/clock/specs/Times.antt) and the lists as they were.
--- callerTests    'voice not 1 to 3', 'two lists of unequal length': '40, 41 and 42 are tested before the file, in that order'
+-- Document 01, 'Playing a voice': 'The listing call takes a voice and a first event number and fills two lent
+-- lists of 32-bit numbers, file offset and jiffy, until they are full or the voice has ended; it returns how
+-- many, 0 past the end, and what lies beyond keeps its old content.' Demand 3 is the equation between a call
+-- and listing, which is made of the played-out voice (crates/bodies/specs/Playing.antt), its exact times
+-- (crates/clock/specs/Times.antt) and the lists as they were.
+-- callerTests    'voice not 1 to 3', 'two lists of unequal length': '40, 41 and 42 are tested before the
+--                file, in that order'
 -- playedIn       the played-out voice
--- countOf        'How many is the lesser of the lists' length and the number of events from the first one asked for to the end'
+-- countOf        'How many is the lesser of the lists' length and the number of events from the first one
+--                asked for to the end'
 -- Listing        what a call leaves: its answer, and both lists
 -- windowIn       what it leaves for a voice
 -- filledBy       what it leaves, by the voice or the refusal: 'A refusal .. changes no lent memory'
--- listing        what it leaves for a file: 41, then 42, then the file's own refusal, then the voice (crates/mus/specs/Asked.antt)
+-- listing        what it leaves for a file: 41, then 42, then the file's own refusal, then the voice
+--                (crates/mus/specs/Asked.antt)
 -- told           what an answer says
 use Prim.Native.Nat.{ℕ, _-_, min}
 use mathlib.Core.Bool.{not, _||_}

@@ -1,8 +1,9 @@
-// The events of a MUS voice in played order, with the file offset and the jiffy of each, as many as two lent lists hold.
+// The events of a MUS voice in played order, with the file offset and the jiffy of each, as many as two lent
+// lists hold.
 ghost use mathlib.Core.Path.{_≡_};
 ghost use Prim.Native.Nat.{_-_, min};
 ghost use lib.ListN.{length};
-ghost use Rattle.mus.specs.AskedLaws.{InSong};
+ghost use Rattle.mus.specs.Bounds.{InSong};
 ghost use Rattle.events.specs.Listing.{windowIn, listing, told};
 use mus::Voice;
 use mus::VoiceReading;
@@ -50,8 +51,9 @@ fn list_part(file: &[u8], v: Voice, first: u64, offsets: &mut [u32], jiffies: &m
     Listed::Count(count)
 }
 
-// Lists the events of voice 1, 2 or 3 of a MUS file from event number first on, which counts from 0: cell i of the first list takes the file offset, cell i of
-// the second the jiffy of event first + i. Answers how many, as many as there are and as the lists hold. Refused with 41 for any other voice, 42 for lists of
+// Lists the events of voice 1, 2 or 3 of a MUS file from event number first on, which counts from 0: cell i
+// of the first list takes the file offset, cell i of the second the jiffy of event first + i. Answers how
+// many, as many as there are and as the lists hold. Refused with 41 for any other voice, 42 for lists of
 // unequal length, or the file's own refusal; no cell but those that are filled changes.
 pub fn list(file: &[u8], voice: u32, first: u64, offsets: &mut [u32], jiffies: &mut [u32]) -> Listed
     ensures { λ r. ⌜ record { answer = told r; offsets = now (offsets .exit); jiffies = now (jiffies .exit) } ≡ listing (now (file .entry)) voice first (now (offsets .entry)) (now (jiffies .entry)) ⌝ }

@@ -1,8 +1,10 @@
 -- What acceptance has shown of a voice, for every voice that none of 27 to 33 refuses.
 -- accepted-sound      it is one body, its DEFs and CALs in order, each opener closed by its own closer
--- accepted-written    its bodies written out again are its stored pairs: HED n, its body, TAL; DEF k, its body, END; CAL k; and events
+-- accepted-written    its bodies written out again are its stored pairs: HED n, its body, TAL; DEF k, its
+--                     body, END; CAL k; and events
 -- accepted-plain      no event in them is HED, TAL, DEF, END or CAL
--- accepted-calls      CAL k stands for the played-out body of the one DEF k of the voice, and so for depth and pairs walked
+-- accepted-calls      CAL k stands for the played-out body of the one DEF k of the voice, and so for depth
+--                     and pairs walked
 use Prim.Native.Nat.{ℕ}
 use mathlib.Core.Path.{_≡_}
 use mathlib.Core.List.{List}

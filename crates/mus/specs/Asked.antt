@@ -1,4 +1,5 @@
--- Document 01, 'What comes back': '41 voice not 1 to 3', which is tested before the file. What a caller who names a voice is answered.
+-- Document 01, 'What comes back': '41 voice not 1 to 3', which is tested before the file. What a caller who
+-- names a voice is answered.
 -- numberTests   41
 -- songVoice     a voice of a song by its number
 -- voiceAsked    a voice by its number: 41, then the file's own refusal, then the voice

@@ -2,8 +2,8 @@
 -- told-voice-once          no two answers are told alike
 -- number-first, file-next  41 by the number, then what the file comes to
 -- Asked, asked-accepted    any other answer is the voice of that number, of an accepted file
--- InSong                   a voice of an accepted file, as acceptance has reported it
--- in-song, asked-in-song   so is each voice of a song, and so is the voice that is asked for
+-- in-song, asked-in-song   each voice of a song, and the voice that is asked for, is as acceptance has
+--                          reported it (InSong)
 use Prim.Native.Nat.{ℕ, zero, suc, _≤_}
 use mathlib.Core.Path.{_≡_, refl, sym, ap, subst}
 use mathlib.Core.Bool.{true, false, _||_}
@@ -20,15 +20,15 @@ use Rattle.refusals.specs.Laws.{passed-none, two-ways, guarded-passed, refused-
 use Rattle.container.specs.Layout.{layoutOf}
 use Rattle.container.specs.Laws.{short-file, voice1-fits, voice2-fits, voice3-fits}
 use Rattle.bodies.specs.Voice.{pairs}
-use Rattle.bodies.specs.Playing.{eventsOf, walkedOf}
 use Rattle.mus.specs.declared.Voice.{Voice}
 use Rattle.mus.specs.declared.Song.{Song}
 use Rattle.mus.specs.declared.VoiceReading.{VoiceReading}
 use Rattle.mus.specs.declared.VoiceReading.the-variants.{Accepted, Refused}
 use Rattle.mus.specs.Voices.{toldVoice}
 use Rattle.mus.specs.Song.{next, musOutcome}
-use Rattle.mus.specs.Asked.{numberTests, songVoice, voiceAsked, bytesOf}
+use Rattle.mus.specs.Asked.{numberTests, songVoice, voiceAsked}
 use Rattle.mus.specs.Laws.{Passes, voiceOf, songOf, accepted-clear, next-given}
+use Rattle.mus.specs.Bounds.{InSong}
 
 pub told-voice-once : (a b : VoiceReading) → toldVoice a ≡ toldVoice b → a ≡ b
 told-voice-once (Accepted v) (Accepted w) e = let same : v ≡ w = cc in rw same
@@ -61,13 +61,6 @@ module _ (f : List ℕ) (n : ℕ) where
     where
       same : {w : Voice} → accepted w ≡ accepted v → w ≡ v
       same q = cc
-
-pub record InSong (f : List ℕ) (v : Voice) : Type 0 where
-  pub passes : Passes (pairs (bytesOf f v))
-  pub short : length f ≤ 65536
-  pub low : v .offset ≤ 65536
-  pub events : v .events ≡ eventsOf (pairs (bytesOf f v))
-  pub walked : v .walked ≡ walkedOf (pairs (bytesOf f v))
 
 -- a part of a list, taken by its own length
 take-own : (n : ℕ) (l : List ℕ) → take (length (take n l)) l ≡ take n l

@@ -1,12 +1,26 @@
--- What the code of accept_voices may count on, for its contract.
+-- What code may count on, for contracts.
 -- InFile   a file that 22 lets pass, and voices that begin in it
+-- InSong   a voice of an accepted file, as acceptance has reported it
 use Prim.Native.Nat.{ℕ, _≤_}
+use mathlib.Core.Path.{_≡_}
 use mathlib.Core.List.{List}
 use lib.ListN.{length}
 use Rattle.container.specs.declared.Layout.{Layout}
+use Rattle.bodies.specs.Voice.{pairs}
+use Rattle.bodies.specs.Playing.{eventsOf, walkedOf}
+use Rattle.mus.specs.declared.Voice.{Voice}
+use Rattle.mus.specs.Asked.{bytesOf}
+use Rattle.mus.specs.Laws.{Passes}
 
 pub record InFile (f : List ℕ) (l : Layout) : Type 0 where
   pub short : length f ≤ 65536
   pub voice1 : l .voice1 .from ≤ 65536
   pub voice2 : l .voice2 .from ≤ 65536
   pub voice3 : l .voice3 .from ≤ 65536
+
+pub record InSong (f : List ℕ) (v : Voice) : Type 0 where
+  pub passes : Passes (pairs (bytesOf f v))
+  pub short : length f ≤ 65536
+  pub low : v .offset ≤ 65536
+  pub events : v .events ≡ eventsOf (pairs (bytesOf f v))
+  pub walked : v .walked ≡ walkedOf (pairs (bytesOf f v))

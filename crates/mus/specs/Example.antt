@@ -1,6 +1,7 @@
 -- Document 01, 'Sums on the bench': the 28 bytes there, by the definitions.
 -- example         the bytes
--- example-heard   they are accepted: voice 1, TEM, HED 3, a note, TAL and HLT, has 1 + 3 + 1 events and walks 1 + (1 + 3 × (1 + 1)) + 1 pairs; voices 2 and 3 are HLT alone
+-- example-heard   they are accepted: voice 1, TEM, HED 3, a note, TAL and HLT, has 1 + 3 + 1 events and walks
+--                 1 + (1 + 3 × (1 + 1)) + 1 pairs; voices 2 and 3 are HLT alone
 use Prim.Native.Nat.{ℕ}
 use mathlib.Core.Path.{_≡_, refl}
 use mathlib.Core.List.{List, [], _∷_}

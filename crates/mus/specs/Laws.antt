@@ -1,4 +1,5 @@
--- A MUS file is accepted exactly when none of 21 to 26 applies to it and none of 27 to 33 to any of its voices. Laws of acceptance and of the text.
+-- A MUS file is accepted exactly when none of 21 to 26 applies to it and none of 27 to 33 to any of its
+-- voices. Laws of acceptance and of the text.
 -- Passes                          none of 27 to 33 applies to a voice
 -- voiceOf                         what is reported of a voice
 -- passes-voice, voice-passes      a voice is accepted exactly when none applies to it
@@ -8,7 +9,8 @@
 -- clear-accepted, accepted-clear  a file is accepted exactly when none applies
 -- told-once                       no two answers are told alike
 -- head-refused                    21 to 24 come first
--- long-refused, cut-off           a file of more than 65,536 bytes is 22, and so is what is left of it that is as long
+-- long-refused, cut-off           a file of more than 65,536 bytes is 22, and so is what is left of it that
+--                                 is as long
 -- line-text                       a line of an accepted file is the paper's line
 use Prim.Native.Nat.{ℕ, _<_}
 use mathlib.Core.Path.{_≡_, refl, sym, ap, _∙_, subst}

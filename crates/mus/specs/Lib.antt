@@ -1,9 +1,9 @@
 pub mod Voices
 pub mod Song
-pub mod Bounds
 pub mod Text
 pub mod Asked
 pub mod Laws
+pub mod Bounds
 pub mod AskedLaws
 pub mod ByNumber
 pub mod Example

@@ -1,4 +1,5 @@
--- Document 01, 'MUS container': 'Order: 21, 22, 23, 24, 25, 26. Then voice 1, 2, 3'; and what an accepted file says of itself.
+-- Document 01, 'MUS container': 'Order: 21, 22, 23, 24, 25, 26. Then voice 1, 2, 3'; and what an accepted
+-- file says of itself.
 -- next          what comes after a part that is accepted; a refusal stands
 -- voiceIn       the voice at a span of a file
 -- songWith      what a right container and its three voices say together

@@ -1,5 +1,6 @@
--- Document 01, 'MUS container': 'within a voice first 27 to 29 pair by pair (at one pair the lower number), then 30 and 31 pair by pair, then 32, then 33. The place
--- is the offending pair's file offset; for 32 and 33 the voice's first pair.' A voice is its own bytes and the file offset of its first pair, and nothing else.
+-- Document 01, 'MUS container': 'within a voice first 27 to 29 pair by pair (at one pair the lower number),
+-- then 30 and 31 pair by pair, then 32, then 33. The place is the offending pair's file offset; for 32 and 33
+-- the voice's first pair.' A voice is its own bytes and the file offset of its first pair, and nothing else.
 -- orFound        a refusal at a pair, with the pair's file offset, or what comes later
 -- limited        32 or 33 at the voice's first pair, or 'each voice's events and pairs walked'
 -- voiceOutcome   a voice accepted or refused

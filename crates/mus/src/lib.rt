@@ -1,5 +1,5 @@
-// Sidplayer MUS files in PRG form: accepted or refused, their voices counted without being played, their text shown. Every call
-// answers for every file and every number; none has a requires.
+// Sidplayer MUS files in PRG form: accepted or refused, their voices counted without being played, their text
+// shown. Every call answers for every file and every number; none has a requires.
 ghost use mathlib.Core.Path.{_≡_};
 ghost use Rattle.mus.specs.Song.{musOutcome, told};
 ghost use Rattle.mus.specs.Voices.{toldVoice};
@@ -11,8 +11,8 @@ use refusals::Refusal;
 
 mod voices;
 
-// A voice of an accepted file: the file offset of its first pair, its length in bytes, and how many events and pairs walked it has when
-// played.
+// A voice of an accepted file: the file offset of its first pair, its length in bytes, and how many events
+// and pairs walked it has when played.
 pub struct Voice {
     pub offset: usize,
     pub length: usize,
@@ -55,7 +55,8 @@ pub fn accept(file: &[u8]) -> Reading
     }
 }
 
-// A voice of an accepted file by its number, 1 to 3. Refused with 41 for any other number, else with the file's own refusal.
+// A voice of an accepted file by its number, 1 to 3. Refused with 41 for any other number, else with the
+// file's own refusal.
 pub fn read_voice(file: &[u8], number: u32) -> VoiceReading
     ensures { λ r. ⌜ toldVoice r ≡ voiceAsked (now (file .entry)) number ⌝ }
 {
@@ -68,7 +69,8 @@ pub fn read_voice(file: &[u8], number: u32) -> VoiceReading
     }
 }
 
-// A text line of an accepted file by its number, 1 to 5; of a refused file, and for any other number, nothing.
+// A text line of an accepted file by its number, 1 to 5; of a refused file, and for any other number,
+// nothing.
 pub fn text_line(file: &[u8], number: u64) -> &[u8]
     ensures { λ r. ⌜ now r ≡ textLine (now (file .entry)) number ⌝ }
 {

@@ -32,7 +32,8 @@ fn refused_at(number: u32, offset: usize, i: usize) -> VoiceReading
     })
 }
 
-// 32 and 33 with the place of the voice's first pair, of a voice that 27 to 31 do not refuse; else the voice with its counts.
+// 32 and 33 with the place of the voice's first pair, of a voice that 27 to 31 do not refuse; else the voice
+// with its counts.
 fn counted(voice: &[u8], offset: usize) -> VoiceReading
     requires { ⌜ (length (now voice) ≤ 65536) × order.Sound (pairs (now voice)) ⌝ }
     ensures { λ r. ⌜ toldVoice r ≡ limited offset (length (now (voice .entry))) (countOutcome (pairs (now (voice .entry)))) ⌝ }

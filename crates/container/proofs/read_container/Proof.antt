@@ -1,4 +1,4 @@
--- `read_container` meets its contract: the head's refusal, or what the tests of the text come to. Assumes nothing.
+-- `read_container` meets its contract: the head's refusal, or what the tests of the text come to.
 use mathlib.Core.Path.{sym, ap, _∙_}
 use native.Mathlib.Omega.{arith}
 use borrow.Author.Needs.{needs}

@@ -1,4 +1,5 @@
--- `line_end` meets its contract. The invariant: what is counted and what is still to be counted make the line. Assumes nothing.
+-- `line_end` meets its contract. The invariant: what is counted and what is still to be counted make the
+-- line. Assumes nothing.
 use Prim.Native.Nat.{_-_}
 use native.Mathlib.Omega.{arith}
 use lib.ListN.{length}
