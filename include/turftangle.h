@@ -52,7 +52,7 @@ static inline uint32_t tt_place(uint64_t answer) { return (uint32_t)answer; }
 enum { TT_MEMORY = 65536, TT_FIELDS = 21, TT_VOICE_NUMBERS = 12 };
 
 /* The cells of tt_sid_fields. A part of the file is the offset of its first byte and, in the next
- * cell, its length. A later release adds fields behind the last one and moves none. */
+ * cell, its length. A later release adds fields after the last one and moves none. */
 enum {
     TT_RSID = 0,            /* 0 for PSID, 1 for RSID */
     TT_VERSION = 1,
@@ -70,14 +70,14 @@ enum {
     TT_TITLE = 13,          /* offset; its length in cell 14 */
     TT_AUTHOR = 15,         /* offset; its length in cell 16 */
     TT_RELEASED = 17,       /* offset; its length in cell 18 */
-    TT_PAYLOAD = 19         /* offset, behind the two address bytes; its length in cell 20 */
+    TT_PAYLOAD = 19         /* offset, after the two address bytes; its length in cell 20 */
 };
 
 /* Reads a PSID or RSID file. Value: 0. Refusals: 1 to 13. */
 uint64_t tt_sid_read(const uint8_t *file, size_t file_n);
 
 /* Reads the file's fields. Value: how many there are, 21. Refusals: 1 to 13.
- * out: as many of the fields as fit, from cell 0 on; cells behind the last field keep what they
+ * out: as many of the fields as fit, from cell 0 on; cells after the last field keep what they
  * held. */
 uint64_t tt_sid_fields(const uint8_t *file, size_t file_n, uint32_t *out, size_t out_n);
 
@@ -97,7 +97,7 @@ uint64_t tt_mus_accept(const uint8_t *file, size_t file_n, uint32_t *out, size_t
 /* Lists the events of a voice (1 to 3) in played order, from event number `first` on; events are
  * numbered from 0. Value: how many cells of each list are filled, 0 past the voice's end.
  * Refusals: 41, 42 where the lists' lengths differ, then 21 to 33.
- * offsets, jiffies: cell i is the file offset and the jiffy of event first + i; cells behind those
+ * offsets, jiffies: cell i is the file offset and the jiffy of event first + i; cells after those
  * filled keep what they held. */
 uint64_t tt_mus_list(const uint8_t *file, size_t file_n, uint32_t voice, uint64_t first,
                      uint32_t *offsets, size_t offsets_n, uint32_t *jiffies, size_t jiffies_n);

@@ -1,9 +1,9 @@
 -- In a voice in order each DEF's number comes to what that DEF's body comes to, whatever is made of bodies;
 -- for walks that meet the DEFs one by one.
--- Meant         so for each DEF in a body, where of k is what number k comes to
--- flat-meant    a body without a DEF has none to speak of
--- meant, voice-meant   so for a body in order, and for a voice
--- AllMeant, open-meant  for all bodies that are open at a pair
+-- Meant                  so for each DEF in a body, where calls k is what number k comes to
+-- flat-meant             a body without a DEF has none to speak of
+-- meant, voice-meant     so for a body in order, and for a voice
+-- AllMeant, open-meant   for all bodies that are open at a pair
 use Prim.Native.Nat.{ℕ}
 use mathlib.Core.Path.{_≡_, refl, sym, _∙_}
 use mathlib.Core.Bool.{Bool}
@@ -17,19 +17,19 @@ use Rattle.bodies.proofs.Phrases.{closed-kept, Agree, keep, here}
 
 module _ {A : Type 0} (m : Interpretation A) where
   unfoldable pub Meant : (ℕ → A) → Body → Type 0
-  Meant of (done c) = Unit
-  Meant of (event e r) = Meant of r
-  Meant of (repeat n i r) = Meant of i × Meant of r
-  Meant of (phrase k i r) = (of k ≡ interpret m of i) × Meant of i × Meant of r
-  Meant of (call k r) = Meant of r
+  Meant calls (done c) = Unit
+  Meant calls (event e r) = Meant calls r
+  Meant calls (repeat n i r) = Meant calls i × Meant calls r
+  Meant calls (phrase k i r) = (calls k ≡ interpret m calls i) × Meant calls i × Meant calls r
+  Meant calls (call k r) = Meant calls r
 
-  flat-meant : (of : ℕ → A) (b : Body) → Flat b → Meant of b
+  flat-meant : (calls : ℕ → A) (b : Body) → Flat b → Meant calls b
   unfolding Meant Flat
-  flat-meant of (done c) f = tt
-  flat-meant of (event e r) f = flat-meant of r f
-  flat-meant of (repeat n i r) f = (flat-meant of i (f .0), flat-meant of r (f .1))
-  flat-meant of (phrase k i r) f = absurd f
-  flat-meant of (call k r) f = flat-meant of r f
+  flat-meant calls (done c) f = tt
+  flat-meant calls (event e r) f = flat-meant calls r f
+  flat-meant calls (repeat n i r) f = (flat-meant calls i (f .0), flat-meant calls r (f .1))
+  flat-meant calls (phrase k i r) f = absurd f
+  flat-meant calls (call k r) f = flat-meant calls r f
 
   meant : (σ : ℕ → A) (K : ℕ → Bool) (ρ : ℕ → A) (b : Body) → Ordered K b → Agree m (closes K b) (phrases m ρ b) σ → Meant σ b
   unfolding Meant phrases Ordered closes

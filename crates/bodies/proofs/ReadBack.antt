@@ -1,7 +1,7 @@
 -- The bodies of a voice written out again are its stored pairs; no event in them is HED, TAL, DEF, END or
 -- CAL.
--- read-back     a voice whose bodies are shut, HED n, its body, TAL; DEF k, its body, END; .., is its stored
---               pairs
+-- read-back   a voice whose bodies are shut, HED n, its body, TAL; DEF k, its body, END; .., is its stored
+--             pairs
 -- Plain, Plains, events-plain   each event's kind is neither HED, TAL, DEF, END nor CAL
 use Prim.Native.Nat.{ℕ, _+_}
 use mathlib.Core.Path.{_≡_, refl, sym, ap, _∙_, subst}
@@ -11,7 +11,7 @@ use Rattle.refusals.specs.Numbers.{Outcome}
 use Rattle.kind.specs.declared.Kind.{Kind}
 use Rattle.kind.specs.declared.Kind.the-variants as Kind
 use Rattle.kind.specs.Kinds.{kindOf}
-use Rattle.bodies.specs.Bodies.{Event, Closer, byTal, byEnd, byStop, Body, done, event, repeat, phrase, call, inner, outer, joined, eventAt, bodies, bodyOf, Piece, one, HED, TAL, DEF, END, CAL, piece, pieces, written}
+use Rattle.bodies.specs.Bodies.{Event, Closer, byTal, byEnd, byStop, Body, done, event, repeat, phrase, call, inner, outer, withPair, eventAt, bodies, bodyOf, Piece, one, HED, TAL, DEF, END, CAL, piece, pieces, writtenOut}
 use Rattle.bodies.specs.Order.{Shut, Sound}
 
 -- a body with the closer that it ends with
@@ -42,8 +42,8 @@ two-apart bs =
     ∙ ap (λ (l : List Piece). spelled (inner bs) ++ l) (one-apart (outer bs))
     ∙ one-apart bs
 
-joined-spelled : (e : Event) (z : Kind) (bs : List Body) → together (joined e z bs) ≡ piece e z ∷ together bs
-unfolding joined together spelled closer piece
+joined-spelled : (e : Event) (z : Kind) (bs : List Body) → together (withPair e z bs) ≡ piece e z ∷ together bs
+unfolding withPair together spelled closer piece
 joined-spelled e Kind.Event bs = ap (λ (l : List Piece). one e ∷ l) (one-apart bs)
 joined-spelled e (Kind.Hed n) bs = ap (λ (l : List Piece). HED n ∷ l) (two-apart bs)
 joined-spelled e Kind.Tal bs = refl
@@ -62,22 +62,22 @@ bodies-spelled i (m ∷ ms) = joined-spelled (eventAt i m) (kindOf m) (bodies (i
 around : (t : Piece) (a b c : List Piece) → (a ++ t ∷ []) ++ (b ++ c) ≡ (a ++ t ∷ b) ++ c
 around t a b c = append-assoc a (t ∷ []) (b ++ c) ∙ sym (append-assoc a (t ∷ b) c)
 
-shut-spelled : (c : Closer) (b : Body) → Shut c b → spelled b ≡ written b ++ closer c
-unfolding Shut spelled written closer
+shut-spelled : (c : Closer) (b : Body) → Shut c b → spelled b ≡ writtenOut b ++ closer c
+unfolding Shut spelled writtenOut closer
 shut-spelled c (done d) s = rw s
 shut-spelled c (event e r) s = ap (λ (l : List Piece). one e ∷ l) (shut-spelled c r s)
 shut-spelled c (repeat n i r) s =
-    ap (λ (l : List Piece). HED n ∷ l) (rw (shut-spelled byTal i (s .0), shut-spelled c r (s .1)) (around TAL (written i) (written r) (closer c)))
+    ap (λ (l : List Piece). HED n ∷ l) (rw (shut-spelled byTal i (s .0), shut-spelled c r (s .1)) (around TAL (writtenOut i) (writtenOut r) (closer c)))
 shut-spelled c (phrase k i r) s =
-    ap (λ (l : List Piece). DEF k ∷ l) (rw (shut-spelled byEnd i (s .0), shut-spelled c r (s .1)) (around END (written i) (written r) (closer c)))
+    ap (λ (l : List Piece). DEF k ∷ l) (rw (shut-spelled byEnd i (s .0), shut-spelled c r (s .1)) (around END (writtenOut i) (writtenOut r) (closer c)))
 shut-spelled c (call k r) s = ap (λ (l : List Piece). CAL k ∷ l) (shut-spelled c r s)
 
-pub read-back : (v : List (Outcome Meaning)) → Sound v → written (bodyOf v) ≡ pieces 0 v
+pub read-back : (v : List (Outcome Meaning)) → Sound v → writtenOut (bodyOf v) ≡ pieces 0 v
 unfolding together closer bodyOf
 read-back v s =
     let whole : spelled (inner (bodies 0 v)) ++ [] ≡ pieces 0 v = subst (λ (l : List Body). spelled (inner (bodies 0 v)) ++ together l ≡ pieces 0 v) (s .whole) (one-apart (bodies 0 v) ∙ bodies-spelled 0 v) in
-    let shut : spelled (inner (bodies 0 v)) ≡ written (inner (bodies 0 v)) ++ [] = shut-spelled byStop (inner (bodies 0 v)) (s .shut) in
-    rw (append-nil (written (inner (bodies 0 v)))) at (sym shut) ∙ (rw (append-nil (spelled (inner (bodies 0 v)))) at whole)
+    let shut : spelled (inner (bodies 0 v)) ≡ writtenOut (inner (bodies 0 v)) ++ [] = shut-spelled byStop (inner (bodies 0 v)) (s .shut) in
+    rw (append-nil (writtenOut (inner (bodies 0 v)))) at (sym shut) ∙ (rw (append-nil (spelled (inner (bodies 0 v)))) at whole)
 
 abbrev pub Plain : Kind → Type 0
 Plain Kind.Event = Unit
@@ -105,8 +105,8 @@ unfolding inner outer AllPlain Plains
 inner-plain [] p = (tt, tt)
 inner-plain (b ∷ bs) p = p
 
-joined-plain : (e : Event) (z : Kind) (bs : List Body) → kindOf (e .meaning) ≡ z → AllPlain bs → AllPlain (joined e z bs)
-unfolding joined AllPlain Plains
+joined-plain : (e : Event) (z : Kind) (bs : List Body) → kindOf (e .meaning) ≡ z → AllPlain bs → AllPlain (withPair e z bs)
+unfolding withPair AllPlain Plains
 joined-plain e Kind.Event bs q p = let x = inner-plain bs p in ((subst Plain (sym q) tt, x .0), x .1)
 joined-plain e (Kind.Hed n) bs q p = let x = inner-plain bs p in let y = inner-plain (outer bs) (x .1) in ((x .0, y .0), y .1)
 joined-plain e Kind.Tal bs q p = (tt, p)

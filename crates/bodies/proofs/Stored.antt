@@ -1,7 +1,7 @@
 -- The pairs of a voice by number, and the bodies that are open at one.
--- length-pairs        a voice of n bytes has n / 2 pairs
+-- length-pairs          a voice of n bytes has n / 2 pairs
 -- pairs-from, pairs-cons, pairs-end   the pairs from a number on
--- plain-event         what is plain is an event
+-- plain-event           what is plain is an event
 -- open-cons, open-end   what is open at a pair, from what is open after it
 -- event-at, hlt-at, bad-at, hed-at, tal-at, def-at, end-at, cal-at   so for each kind of pair
 use Prim.Native.Nat.{ℕ, zero, suc, _+_, _*_, _/_, _<_, _≤_}
@@ -17,7 +17,7 @@ use Rattle.kind.specs.declared.Kind.the-variants as Kind
 use Rattle.kind.specs.Kinds.{kindOf}
 use Rattle.kind.proofs.PlainEvents as plain
 use Rattle.bodies.specs.Voice.{pairs, pairAt, plainAt}
-use Rattle.bodies.specs.Bodies.{Event, byTal, byEnd, Body, done, event, repeat, phrase, call, inner, outer, joined, eventAt, bodies}
+use Rattle.bodies.specs.Bodies.{Event, byTal, byEnd, Body, done, event, repeat, phrase, call, inner, outer, withPair, eventAt, bodies}
 use Rattle.bodies.specs.Places.{openAt}
 
 pub length-pairs : (bs : List ℕ) → length (pairs bs) ≡ length bs / 2
@@ -52,7 +52,7 @@ unfolding plainAt pairAt
 plain-event bs i e = plain.plain-event (getD bs (2 * i) 0) (getD bs (2 * i + 1) 0) e
 
 pub open-cons : (bs : List ℕ) (i : ℕ) → i < length bs / 2
-    → openAt (pairs bs) i ≡ joined (eventAt i (pairAt bs i)) (kindOf (pairAt bs i)) (openAt (pairs bs) (i + 1))
+    → openAt (pairs bs) i ≡ withPair (eventAt i (pairAt bs i)) (kindOf (pairAt bs i)) (openAt (pairs bs) (i + 1))
 unfolding openAt bodies
 open-cons bs i h = rw (pairs-cons bs i h)
 
@@ -68,37 +68,37 @@ module _ (bs : List ℕ) (i : ℕ) (h : i < length bs / 2) where
   abbrev pub here : Event
   here = eventAt i (pairAt bs i)
 
-  open-as : (z : Kind) → kindOf (pairAt bs i) ≡ z → openAt (pairs bs) i ≡ joined here z next
-  open-as z k = open-cons bs i h ∙ ap (λ (y : Kind). joined here y next) k
+  open-as : (z : Kind) → kindOf (pairAt bs i) ≡ z → openAt (pairs bs) i ≡ withPair here z next
+  open-as z k = open-cons bs i h ∙ ap (λ (y : Kind). withPair here y next) k
 
   pub event-at : kindOf (pairAt bs i) ≡ Kind.Event → openAt (pairs bs) i ≡ event here (inner next) ∷ outer next
-  unfolding joined
+  unfolding withPair
   event-at k = open-as Kind.Event k
 
   pub hlt-at : kindOf (pairAt bs i) ≡ Kind.Hlt → openAt (pairs bs) i ≡ event here (inner next) ∷ outer next
-  unfolding joined
+  unfolding withPair
   hlt-at k = open-as Kind.Hlt k
 
   pub bad-at : (n : ℕ) → kindOf (pairAt bs i) ≡ Kind.Bad n → openAt (pairs bs) i ≡ event here (inner next) ∷ outer next
-  unfolding joined
+  unfolding withPair
   bad-at n k = open-as (Kind.Bad n) k
 
   pub hed-at : (n : ℕ) → kindOf (pairAt bs i) ≡ Kind.Hed n → openAt (pairs bs) i ≡ repeat n (inner next) (inner (outer next)) ∷ outer (outer next)
-  unfolding joined
+  unfolding withPair
   hed-at n k = open-as (Kind.Hed n) k
 
   pub tal-at : kindOf (pairAt bs i) ≡ Kind.Tal → openAt (pairs bs) i ≡ done byTal ∷ next
-  unfolding joined
+  unfolding withPair
   tal-at k = open-as Kind.Tal k
 
   pub def-at : (n : ℕ) → kindOf (pairAt bs i) ≡ Kind.Def n → openAt (pairs bs) i ≡ phrase n (inner next) (inner (outer next)) ∷ outer (outer next)
-  unfolding joined
+  unfolding withPair
   def-at n k = open-as (Kind.Def n) k
 
   pub end-at : kindOf (pairAt bs i) ≡ Kind.End → openAt (pairs bs) i ≡ done byEnd ∷ next
-  unfolding joined
+  unfolding withPair
   end-at k = open-as Kind.End k
 
   pub cal-at : (n : ℕ) → kindOf (pairAt bs i) ≡ Kind.Cal n → openAt (pairs bs) i ≡ call n (inner next) ∷ outer next
-  unfolding joined
+  unfolding withPair
   cal-at n k = open-as (Kind.Cal n) k

@@ -1,15 +1,16 @@
 -- Document 01, 'Playing a voice': the played-out voice, its events, the pairs walked and the depth, by
 -- recursion over bodies.
--- Interpretation   what a body's parts come to: nothing more, an event, a repeat, a DEF where it stands and a
---                  CAL, each before the rest of the body
--- interpret        what a body comes to, where of k is what the body of DEF k comes to
--- learn, phrases   what the bodies of the DEFs in a body come to, by number, each where it is defined
--- phrasesOf        so for a whole voice
--- ofVoice          what a voice comes to, its CALs by its DEFs: 'CAL k gives one copy of the body of DEF k'
--- copies           'n copies of the body played out, one behind the other'
--- playing, played  'An event gives itself. HED n, its body and its TAL give n copies .. DEF k, its body and
---                  its END give one copy. CAL k gives one copy'
--- eventsOf         'events': how many the played-out voice has
+-- Interpretation      what a body's parts come to: nothing more, an event, a repeat, a DEF where it stands
+--                     and a CAL, each before the rest of the body
+-- interpret           what a body comes to, where calls k is what CAL k comes to
+-- learn, phrases      what the bodies of the DEFs in a body come to, by number, each where it is defined
+-- phrasesOf           so for a whole voice
+-- ofVoice             what a voice comes to, its CALs by its DEFs: 'CAL k gives one copy of the body of DEF
+--                     k'
+-- copies              'n copies of the body played out, one behind the other'
+-- playing, played     'An event gives itself. HED n, its body and its TAL give n copies .. DEF k, its body
+--                     and its END give one copy. CAL k gives one copy'
+-- eventsOf            'events': how many the played-out voice has
 -- walking, walkedOf   'Pairs walked: ordinary pair 1; repeat 1 + n × (body + 1); DEF to END, body + 2; CAL,
 --                     body + 2'
 -- nesting, depthOf    'Depth counts repeats and calls in progress at once'
@@ -30,21 +31,21 @@ pub record Interpretation (A : Type 0) : Type 0 where
   pub called : A → A → A
 
 unfoldable pub interpret : {A : Type 0} → Interpretation A → (ℕ → A) → Body → A
-interpret m of (done c) = m .nothing
-interpret m of (event e r) = m .plain e (interpret m of r)
-interpret m of (repeat n i r) = m .repeated n (interpret m of i) (interpret m of r)
-interpret m of (phrase k i r) = m .defined (interpret m of i) (interpret m of r)
-interpret m of (call k r) = m .called (of k) (interpret m of r)
+interpret m calls (done c) = m .nothing
+interpret m calls (event e r) = m .plain e (interpret m calls r)
+interpret m calls (repeat n i r) = m .repeated n (interpret m calls i) (interpret m calls r)
+interpret m calls (phrase k i r) = m .defined (interpret m calls i) (interpret m calls r)
+interpret m calls (call k r) = m .called (calls k) (interpret m calls r)
 
 abbrev pub learn : {A : Type 0} → ℕ → A → (ℕ → A) → ℕ → A
-learn k a of j = cond (eqb k j) a (of j)
+learn k a calls j = cond (eqb k j) a (calls j)
 
 unfoldable pub phrases : {A : Type 0} → Interpretation A → (ℕ → A) → Body → ℕ → A
-phrases m of (done c) = of
-phrases m of (event e r) = phrases m of r
-phrases m of (repeat n i r) = phrases m (phrases m of i) r
-phrases m of (phrase k i r) = phrases m (learn k (interpret m of i) of) r
-phrases m of (call k r) = phrases m of r
+phrases m calls (done c) = calls
+phrases m calls (event e r) = phrases m calls r
+phrases m calls (repeat n i r) = phrases m (phrases m calls i) r
+phrases m calls (phrase k i r) = phrases m (learn k (interpret m calls i) calls) r
+phrases m calls (call k r) = phrases m calls r
 
 abbrev pub phrasesOf : {A : Type 0} → Interpretation A → List (Outcome Meaning) → ℕ → A
 phrasesOf m v = phrases m (λ k. m .nothing) (bodyOf v)

@@ -1,10 +1,10 @@
--- docs/DECISIONS.md, 'What kind a file is': told from the file's bytes alone.
--- Judgement   what a file is and comes to: accepted with what it says of itself, or refused with a number and
---             a place
--- told        what an answer says
--- asTune      a file that begins with PSID or RSID: what document 01, 'PSID and RSID', answers
--- asSong      any other file: a song where 21 to 24 do not apply to it as a MUS song, and else neither
--- judged      a file
+-- docs/DECISIONS.md, 'What kind a file is': by the file's bytes alone.
+-- Judgement     what a file is and comes to: accepted with what it says of itself, or refused with a number
+--               and a place
+-- judgementOf   what an answer says
+-- asTune        a file that begins with PSID or RSID: what document 01, 'PSID and RSID', answers
+-- asSong        any other file: a song where 21 to 24 do not apply to it as a MUS song, and else neither
+-- judged        a file
 use Prim.Native.Nat.{ℕ}
 use mathlib.Core.List.{List}
 use mathlib.Core.Bool.{cond}
@@ -31,12 +31,12 @@ pub data Judgement : Type 0 where
   refusedSong : ℕ → ℕ → Judgement
   neither : ℕ → ℕ → Judgement
 
-abbrev pub told : Judged → Judgement
-told (answer.Tune h) = tune h
-told (answer.RefusedTune k x) = refusedTune k (x .number) (x .place)
-told (answer.Song s) = song s
-told (answer.RefusedSong x) = refusedSong (x .number) (x .place)
-told (answer.Neither x) = neither (x .number) (x .place)
+abbrev pub judgementOf : Judged → Judgement
+judgementOf (answer.Tune h) = tune h
+judgementOf (answer.RefusedTune k x) = refusedTune k (x .number) (x .place)
+judgementOf (answer.Song s) = song s
+judgementOf (answer.RefusedSong x) = refusedSong (x .number) (x .place)
+judgementOf (answer.Neither x) = neither (x .number) (x .place)
 
 abbrev pub asTune : Kind → Outcome Header → Judgement
 asTune kind (accepted h) = tune h

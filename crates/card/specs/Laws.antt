@@ -1,7 +1,7 @@
--- Every file that a reader accepts is judged so: no tune and no song is lost by the way its kind is told.
--- tune-judged   a file that is accepted as PSID or RSID
--- song-judged   a file that is accepted as MUS: begun with PSID or RSID, the length of its first voice would
---               be odd (23)
+-- Every file that a reader accepts is judged so: no tune and no song is lost by the way its kind is found.
+-- tune-judged                  a file that is accepted as PSID or RSID
+-- song-judged                  a file that is accepted as MUS: begun with PSID or RSID, the length of its
+--                              first voice would be odd (23)
 -- byNumber, judged-by-number   a MUS reader's own refusal tells the same: its number is 24 or less where the
 --                              file is neither
 use Prim.Native.Nat.{ℕ, _+_, _*_, _<_, _%_}

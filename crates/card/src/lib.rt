@@ -1,10 +1,10 @@
-// What a file of a card is, told from its content: a PSID or RSID tune, a MUS song, or neither. The call
+// What a file of a card is, found from its content: a PSID or RSID tune, a MUS song, or neither. The call
 // answers for every file.
 ghost use mathlib.Core.Path.{_≡_};
 ghost use Rattle.sid.specs.Answers.{sidOutcome};
 ghost use Rattle.container.specs.Head.{headOutcome};
 ghost use Rattle.mus.specs.Song.{musOutcome};
-ghost use Rattle.card.specs.Judging.{told, asTune, asSong, judged};
+ghost use Rattle.card.specs.Judging.{judgementOf, asTune, asSong, judged};
 use container::Heading;
 use mus::Song;
 use refusals::Refusal;
@@ -23,7 +23,7 @@ pub enum Judged {
 
 // A file that begins as a PSID or RSID.
 fn as_tune(file: &[u8], kind: Kind) -> Judged
-    ensures { λ r. ⌜ told r ≡ asTune kind (sidOutcome (now (file .entry))) ⌝ }
+    ensures { λ r. ⌜ judgementOf r ≡ asTune kind (sidOutcome (now (file .entry))) ⌝ }
 {
     match sid::read(file) {
         sid::Reading::Accepted(h) => Judged::Tune(h),
@@ -33,7 +33,7 @@ fn as_tune(file: &[u8], kind: Kind) -> Judged
 
 // Any other file: a song where its first eight bytes describe it as one.
 fn as_song(file: &[u8]) -> Judged
-    ensures { λ r. ⌜ told r ≡ asSong (headOutcome (now (file .entry))) (musOutcome (now (file .entry))) ⌝ }
+    ensures { λ r. ⌜ judgementOf r ≡ asSong (headOutcome (now (file .entry))) (musOutcome (now (file .entry))) ⌝ }
 {
     match container::read_head(file) {
         Heading::Refused(x) => Judged::Neither(x),
@@ -46,7 +46,7 @@ fn as_song(file: &[u8]) -> Judged
 
 // What a file is, and whether it is accepted.
 pub fn judge(file: &[u8]) -> Judged
-    ensures { λ r. ⌜ told r ≡ judged (now (file .entry)) ⌝ }
+    ensures { λ r. ⌜ judgementOf r ≡ judged (now (file .entry)) ⌝ }
 {
     let magic = fields::be32(file, 0);
     if magic == sidheader::PSID {

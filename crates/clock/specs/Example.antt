@@ -1,10 +1,14 @@
--- Document 01, 'Playing a voice', on pairs worked out by hand: each kind of note under values set before it, in 384ths.
--- before     utility duration and utility voice with nothing set, a quarter at the start
--- utility    UTL 3, utility duration, its triplet; UTV 5, utility voice with bit 7 clear and set; utility duration again
--- values     TEM 7, whole to 64th
--- shapes     dotted, triplet and double dotted quarter; triplet 64th by A0 and by 80, tied 64th; absolute pitch; TEM 0, a whole note; HLT
--- each-lasts   what they last: 96 × 120; 384 × 3, 256 × 3, 384 × 5; 384 × 7 and its halves; 3/2, 2/3 and 7/4 of 96 × 7; 4 × 7, 6 × 7; 0; 384 × 256
--- summed       and the exact time of the event behind them all
+-- Document 01, 'Playing a voice', on pairs worked out by hand: each kind of note under values set before it,
+-- in 384ths.
+-- before       utility duration and utility voice with nothing set, a quarter at the start
+-- utility      UTL 3, utility duration, its triplet; UTV 5, utility voice with bit 7 clear and set; utility
+--              duration again
+-- values       TEM 7, whole to 64th
+-- shapes       dotted, triplet and double dotted quarter; triplet 64th by A0 and by 80, tied 64th; absolute
+--              pitch; TEM 0, a whole note; HLT
+-- each-lasts   what they last: 96 × 120; 384 × 3, 256 × 3, 384 × 5; 384 × 7 and its halves; 3/2, 2/3 and 7/4
+--              of 96 × 7; 4 × 7, 6 × 7; 0; 384 × 256
+-- summed       and the exact time of the event after them all
 use Prim.Native.Nat.{ℕ}
 use mathlib.Core.Path.{_≡_, refl}
 use mathlib.Core.List.{List, [], _∷_, _++_}

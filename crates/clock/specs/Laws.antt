@@ -1,12 +1,12 @@
 -- Laws that show the lengths and times to be those of document 01, 'Playing a voice'.
--- each-half         each value from a half note on is half of the one before
+-- each-half                 each value from a half note on is half of the one before
 -- dotted-exact, triplet-exact, double-dotted-exact   the shapes drop no fraction, but of a double dotted 64th
--- numerator, denominator   the fraction of a shape
--- partsOf, wholeOf  what part a value is, and of which length
--- never-dotted      no pair means a dotted or double dotted 64th
--- exact             so no length of a note that a pair means drops a fraction
--- jiffies-rise      jiffies never fall
--- same-time         events of equal exact time have one jiffy, also of different voices
+-- numerator, denominator    the fraction of a shape
+-- partsOfWhole, wholeOf     what part a value is, and of which length
+-- never-dotted              no pair means a dotted or double dotted 64th
+-- exact                     so no length of a note that a pair means drops a fraction
+-- jiffies-rise              jiffies never fall
+-- same-time                 events of equal exact time have one jiffy, also of different voices
 -- eightNotes, eight-64ths   fractions are dropped of the sum, and not note by note
 use Prim.Native.Nat.{ℕ, zero, suc, _*_, _/_, _≤_, _<_}
 use mathlib.Core.Path.{_≡_, refl, ap}
@@ -80,17 +80,17 @@ denominator Dotted = 2
 denominator DoubleDotted = 4
 denominator Triplet = 3
 
-abbrev pub partsOf : Duration → ℕ
-partsOf Whole = 1
-partsOf Half = 2
-partsOf Quarter = 4
-partsOf Eighth = 8
-partsOf Sixteenth = 16
-partsOf ThirtySecond = 32
-partsOf SixtyFourth = 64
-partsOf UtilityDuration = 1
-partsOf UtilityVoice = 1
-partsOf AbsolutePitch = 1
+abbrev pub partsOfWhole : Duration → ℕ
+partsOfWhole Whole = 1
+partsOfWhole Half = 2
+partsOfWhole Quarter = 4
+partsOfWhole Eighth = 8
+partsOfWhole Sixteenth = 16
+partsOfWhole ThirtySecond = 32
+partsOfWhole SixtyFourth = 64
+partsOfWhole UtilityDuration = 1
+partsOfWhole UtilityVoice = 1
+partsOfWhole AbsolutePitch = 1
 
 abbrev pub wholeOf : Values → Duration → ℕ
 wholeOf q Whole = 384 * q .tempo
@@ -104,7 +104,7 @@ wholeOf q UtilityDuration = 384 * q .utl
 wholeOf q UtilityVoice = 384 * q .utv
 wholeOf q AbsolutePitch = 0
 
-parts-exact : (q : Values) (d : Duration) → partsOf d * plainLength q d ≡ wholeOf q d
+parts-exact : (q : Values) (d : Duration) → partsOfWhole d * plainLength q d ≡ wholeOf q d
 parts-exact q Whole = omega arith
 parts-exact q Half = omega arith
 parts-exact q Quarter = omega arith
@@ -123,11 +123,11 @@ undotted DoubleDotted = false
 undotted Triplet = true
 
 abbrev readShape : ℕ → Bool
-readShape a = not (eqb (partsOf (Reading.lengthOf a .duration)) 64) || undotted (Reading.lengthOf a .shape)
+readShape a = not (eqb (partsOfWhole (Reading.lengthInByte a .duration)) 64) || undotted (Reading.lengthInByte a .shape)
 
 -- 'Code 0 otherwise is a 64th, triplet when bit 7 is set, and never dotted'
-pub never-dotted : (a : ℕ) → a < 256 → Reading.lengthOf a .duration ≡ SixtyFourth → (Reading.lengthOf a .shape ≡ Plain) ⊎ (Reading.lengthOf a .shape ≡ Triplet)
-never-dotted a h e = go (Reading.lengthOf a .shape) (rw e at (every-at readShape 256 tt a h))
+pub never-dotted : (a : ℕ) → a < 256 → Reading.lengthInByte a .duration ≡ SixtyFourth → (Reading.lengthInByte a .shape ≡ Plain) ⊎ (Reading.lengthInByte a .shape ≡ Triplet)
+never-dotted a h e = go (Reading.lengthInByte a .shape) (rw e at (every-at readShape 256 tt a h))
   where
     go : (s : Shape) → T (undotted s) → (s ≡ Plain) ⊎ (s ≡ Triplet)
     go Plain t = inl refl
@@ -135,10 +135,11 @@ never-dotted a h e = go (Reading.lengthOf a .shape) (rw e at (every-at readShape
     go DoubleDotted t = absurd t
     go Triplet t = inr refl
 
--- 'Time is in 384ths of a jiffy': whole ones, since each length is the fraction that the paper names of the length that it names
+-- 'Time is in 384ths of a jiffy': whole ones, since each length is the fraction that the paper names of the
+-- length that it names
 pub exact : (q : Values) (a b : ℕ) → a < 256
     → (denominator (noteOf a b .shape) * noteLength q (noteOf a b) ≡ numerator (noteOf a b .shape) * plainLength q (noteOf a b .duration))
-    × (partsOf (noteOf a b .duration) * plainLength q (noteOf a b .duration) ≡ wholeOf q (noteOf a b .duration))
+    × (partsOfWhole (noteOf a b .duration) * plainLength q (noteOf a b .duration) ≡ wholeOf q (noteOf a b .duration))
 exact q a b h =
     let d = noteOf a b .duration in
     (go d (noteOf a b .shape) (never-dotted a h), parts-exact q d)

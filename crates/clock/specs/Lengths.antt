@@ -1,12 +1,13 @@
--- Document 01, 'Playing a voice': 'Time is in 384ths of a jiffy: with tempo t a whole note is 384t, each next value half of that; dotted 3/2, double dotted 7/4,
--- triplet 2/3. Utility duration and voice are 384 × the last UTL or UTV value, triplet two thirds. Absolute pitch and commands take 0.' Laws.antt shows that
--- none of the divisions drops a fraction.
--- atStart      'Each voice starts with t = 120, UTL = UTV = 0'
--- plainLength  a plain note's length by its duration
--- shaped       dotted, double dotted, triplet
--- noteLength   a note's length
+-- Document 01, 'Playing a voice': 'Time is in 384ths of a jiffy: with tempo t a whole note is 384t, each next
+-- value half of that; dotted 3/2, double dotted 7/4, triplet 2/3. Utility duration and voice are 384 × the
+-- last UTL or UTV value, triplet two thirds. Absolute pitch and commands take 0.' Laws.antt shows that none
+-- of the divisions drops a fraction.
+-- atStart              'Each voice starts with t = 120, UTL = UTV = 0'
+-- plainLength          a plain note's length by its duration
+-- shaped               dotted, double dotted, triplet
+-- noteLength           a note's length
 -- lengthIn, lengthOf   an event's length, by the values that hold at it
--- setBy, valuesAfter   the values that hold behind an event: 'until the next of the same kind'
+-- setBy, valuesAfter   the values that hold after an event: 'until the next of the same kind'
 use Prim.Native.Nat.{ℕ, _*_, _/_}
 use Rattle.meaning.specs.declared.Duration.{Duration}
 use Rattle.meaning.specs.declared.Duration.the-variants.{Whole, Half, Quarter, Eighth, Sixteenth, ThirtySecond, SixtyFourth, UtilityDuration, UtilityVoice, AbsolutePitch}

@@ -1,10 +1,12 @@
--- The jiffies of a voice's events as a run through them finds them, by the time and the values so far, and how great those get.
--- jiffiesFrom     each event's jiffy, from a time and the values that hold
--- length-jiffies, jiffies-at   there is one for each event: 'its jiffy is that sum in 384ths divided by 384, rounded down'
--- jiffies-from    the run from 0 and the values at the start finds these
--- Moderate        the values that bytes can set: 'TEM 0 means 256'
--- start-moderate, moderate-after   the values of every voice are such
--- length-bound    no event is longer than a double dotted whole note at tempo 256
+-- The jiffies of a voice's events as a run through them finds them, by the time and the values so far, and
+-- how great those get.
+-- jiffiesFrom                  each event's jiffy, from a time and the values that hold
+-- length-jiffies, jiffies-at   there is one for each event: 'its jiffy is that sum in 384ths divided by 384,
+--                              rounded down'
+-- jiffies-from                 the run from 0 and the values at the start finds these
+-- ByteValues                   the values that bytes can set: 'TEM 0 means 256'
+-- start-byte-values, byte-values-after   the values of every voice are such
+-- length-bound                 no event is longer than a double dotted whole note at tempo 256
 use Prim.Native.Nat.{ℕ, zero, suc, _+_, _/_, _≤_, _<_}
 use mathlib.Core.Path.{_≡_, refl, ap, sym, _∙_}
 use mathlib.Core.List.{List, [], _∷_, map}
@@ -69,25 +71,25 @@ jiffies-from ms =
     ext-getD 0 (jiffies ms) (jiffiesFrom 0 atStart ms) (length-jiffies ms ∙ sym (length-from 0 atStart ms))
     (λ i h. let b : i < length ms = rw length-jiffies at h in jiffies-at ms i b ∙ omega (arith, from-at 0 atStart ms i b))
 
-pub record Moderate (q : Values) : Type 0 where
+pub record ByteValues (q : Values) : Type 0 where
   pub tempo : q .tempo ≤ 256
   pub utl : q .utl ≤ 255
   pub utv : q .utv ≤ 255
 
-pub start-moderate : Moderate atStart
-start-moderate = record { tempo = lit≤ tt; utl = lit≤ tt; utv = lit≤ tt }
+pub start-byte-values : ByteValues atStart
+start-byte-values = record { tempo = lit≤ tt; utl = lit≤ tt; utv = lit≤ tt }
 
 tempo-low : (b : ℕ) → b < 256 → tempoOf b ≤ 256
 tempo-low b h = cases (eqb b 0) (λ e. rw e (lit≤ tt)) (λ e. rw e (omega arith))
 
-pub moderate-after : (q : Values) (a b : ℕ) → a < 256 → b < 256 → Moderate q → Moderate (valuesAfter q (meaningOf a b))
-moderate-after q a b ha hb m =
+pub byte-values-after : (q : Values) (a b : ℕ) → a < 256 → b < 256 → ByteValues q → ByteValues (valuesAfter q (meaningOf a b))
+byte-values-after q a b ha hb m =
     rw (values-are q a b ha hb)
     (cases (eqb a 0x06) (λ s. rw s (record { tempo = tempo-low b hb; utl = m .utl; utv = m .utv }))
     (λ s. cases (eqb a 0x16) (λ t. rw (s, t) (record { tempo = m .tempo; utl = omega arith; utv = m .utv }))
     (λ t. cases (eqb a 0xF6) (λ u. rw (s, t, u) (record { tempo = m .tempo; utl = m .utl; utv = omega arith })) (λ u. rw (s, t, u) m))))
 
-plain-bound : (q : Values) (d : Duration) → Moderate q → plainLength q d ≤ 98304
+plain-bound : (q : Values) (d : Duration) → ByteValues q → plainLength q d ≤ 98304
 plain-bound q Whole m = omega arith
 plain-bound q Half m = omega arith
 plain-bound q Quarter m = omega arith
@@ -105,7 +107,7 @@ shaped-bound Dotted x h = omega arith
 shaped-bound DoubleDotted x h = omega arith
 shaped-bound Triplet x h = omega arith
 
-pub length-bound : (q : Values) (m : Outcome Meaning) → Moderate q → lengthOf q m ≤ 172032
+pub length-bound : (q : Values) (m : Outcome Meaning) → ByteValues q → lengthOf q m ≤ 172032
 unfolding lengthOf
 length-bound q m h = go (timingOf m)
   where

@@ -1,7 +1,8 @@
--- What a pair sets, by its two bytes: source 004's rows of TEM, UTL and UTV, and that no other pair sets anything.
--- settingOf       06 sets the tempo, 16 UTL, F6 UTV, to the second byte; 'TEM 0 means 256'
--- values-are      the values behind a pair are those so set
--- length-command  a command's length: 'commands take 0'
+-- What a pair sets, by its two bytes: source 004's rows of TEM, UTL and UTV, and that no other pair sets
+-- anything.
+-- settingOf        06 sets the tempo, 16 UTL, F6 UTV, to the second byte; 'TEM 0 means 256'
+-- values-are       the values after a pair are those so set
+-- length-command   a command's length: 'commands take 0'
 use Prim.Native.Nat.{ℕ, _+_, _*_, _%_, _<_}
 use mathlib.Core.Path.{_≡_, refl, sym, _∙_}
 use mathlib.Core.Bool.{Bool, true, false, cond}
@@ -22,7 +23,7 @@ use Rattle.refusals.specs.Numbers.Outcome.{accepted}
 use Rattle.commandtable.specs.Patterns.{Symbol, O, I, n, byte, fits, number}
 use Rattle.commandtable.specs.Codes.{secondOutcome}
 use Rattle.commandsigns.specs.Signs.{outOfRange, scaOutcome, tpsOutcome, rtpOutcome, jifOutcome}
-use Rattle.command.specs.Others.{pulse, single, joined, found, unassigned, upTo127, tempoOf, joinedOutcome, otherOutcome}
+use Rattle.command.specs.Others.{pulseRows, singleRows, joinedRows, rowFound, unassigned, upTo127, tempoOf, joinedOutcome, otherOutcome}
 use Rattle.command.specs.RowLaws.{picked, Each, found-holds}
 use Rattle.command.specs.Pair.{commandOutcome}
 use Rattle.pair.specs.Pairs.{meaningOf}
@@ -67,16 +68,16 @@ jif-untimed v =
 other-untimed : (a b : ℕ) → a < 256 → b < 256 → (a ≡ 0x06 → ⊥) → (a ≡ 0x16 → ⊥) → (a ≡ 0xF6 → ⊥) → Untimed (otherOutcome a b)
 other-untimed a b ha hb tem utl utv =
     -- the rows from one command on, last first
-    let from-rtp : Each Untimed (drop 18 single) a b = (λ t. ranged rtpOutcome tt b hb, (λ t. refl, tt)) in
-    let from-max : Each Untimed (drop 15 single) a b = (λ t. refl, (missed (byte I I I I O I I O) 0xF6 tt a ha utv, (λ t. refl, from-rtp))) in
-    let from-pvd : Each Untimed (drop 13 single) a b = (λ t. ranged (λ k. upTo127 k (Pvd k)) tt b hb, (λ t. ranged (λ k. upTo127 k (Pvr k)) tt b hb, from-max)) in
-    let from-vrt : Each Untimed (drop 9 single) a b = (λ t. refl, (λ t. refl, (λ t. ranged tpsOutcome tt b hb, (λ t. refl, from-pvd)))) in
-    let from-sca : Each Untimed (drop 7 single) a b = (λ t. ranged scaOutcome tt b hb, (λ t. ranged (λ k. upTo127 k (Vdp k)) tt b hb, from-vrt)) in
-    let from-pnt : Each Untimed (drop 2 single) a b = (λ t. refl, (λ t. refl, (λ t. refl, (λ t. refl, (λ t. refl, from-sca))))) in
-    let from-tem : Each Untimed single a b = (missed (byte O O O O O I I O) 0x06 tt a ha tem, (missed (byte O O O I O I I O) 0x16 tt a ha utl, from-pnt)) in
-    let from-ms : Each Untimed joined a b = (λ t. refl, (λ t. jif-untimed (number (byte n n I I I I I O) a * 256 + b), (λ t. refl, (λ t. refl, (λ t. refl, tt))))) in
-    found-holds Untimed pulse a b (found single a b (joinedOutcome a b)) (λ t. refl, tt)
-    (found-holds Untimed single a b (joinedOutcome a b) from-tem (found-holds Untimed joined a b unassigned from-ms refl))
+    let from-rtp : Each Untimed (drop 18 singleRows) a b = (λ t. ranged rtpOutcome tt b hb, (λ t. refl, tt)) in
+    let from-max : Each Untimed (drop 15 singleRows) a b = (λ t. refl, (missed (byte I I I I O I I O) 0xF6 tt a ha utv, (λ t. refl, from-rtp))) in
+    let from-pvd : Each Untimed (drop 13 singleRows) a b = (λ t. ranged (λ k. upTo127 k (Pvd k)) tt b hb, (λ t. ranged (λ k. upTo127 k (Pvr k)) tt b hb, from-max)) in
+    let from-vrt : Each Untimed (drop 9 singleRows) a b = (λ t. refl, (λ t. refl, (λ t. ranged tpsOutcome tt b hb, (λ t. refl, from-pvd)))) in
+    let from-sca : Each Untimed (drop 7 singleRows) a b = (λ t. ranged scaOutcome tt b hb, (λ t. ranged (λ k. upTo127 k (Vdp k)) tt b hb, from-vrt)) in
+    let from-pnt : Each Untimed (drop 2 singleRows) a b = (λ t. refl, (λ t. refl, (λ t. refl, (λ t. refl, (λ t. refl, from-sca))))) in
+    let from-tem : Each Untimed singleRows a b = (missed (byte O O O O O I I O) 0x06 tt a ha tem, (missed (byte O O O I O I I O) 0x16 tt a ha utl, from-pnt)) in
+    let from-ms : Each Untimed joinedRows a b = (λ t. refl, (λ t. jif-untimed (number (byte n n I I I I I O) a * 256 + b), (λ t. refl, (λ t. refl, (λ t. refl, tt))))) in
+    found-holds Untimed pulseRows a b (rowFound singleRows a b (joinedOutcome a b)) (λ t. refl, tt)
+    (found-holds Untimed singleRows a b (joinedOutcome a b) from-tem (found-holds Untimed joinedRows a b unassigned from-ms refl))
 
 setting-is : (a b : ℕ) → a < 256 → b < 256 → timingOf (commandOutcome a b) ≡ settingOf a b
 setting-is a b ha hb =

@@ -1,5 +1,6 @@
--- Document 01, 'Playing a voice', as the code multiplies it: 'each next value half of that; dotted 3/2, double dotted 7/4, triplet 2/3'. A plain 32nd of tempo
--- 1 has 12 384ths, so that every value from a whole note to a 32nd is a product of whole numbers in each shape.
+-- Document 01, 'Playing a voice', as the code multiplies it: 'each next value half of that; dotted 3/2,
+-- double dotted 7/4, triplet 2/3'. A plain 32nd of tempo 1 has 12 384ths, so that every value from a whole
+-- note to a 32nd is a product of whole numbers in each shape.
 -- thirtySeconds   how many 32nds a value has, by the three-bit code
 -- twelfthsOf      what a 32nd of tempo 1 has, by bits 7 and 5
 -- shares          how many 384ths of tempo 1, by the first byte

@@ -1,11 +1,13 @@
--- Document 01, 'Playing a voice': 'An event's exact time is the sum of the lengths of all events before it there, 0 for event 0. Its jiffy is that sum in 384ths
--- divided by 384, rounded down'. Of the events only what they mean counts here, in played order.
--- lengths    each event's length, by the values that hold before the first: 'TEM, UTL and UTV hold for the events after them there'
--- sum        the sum of some lengths
--- timeOf     the exact time of an event by its number, in 384ths
--- jiffyOf    its jiffy
--- numbers    so many numbers from one on: 'its events numbered from 0'
--- jiffies    the jiffies of all events
+-- Document 01, 'Playing a voice': 'An event's exact time is the sum of the lengths of all events before it
+-- there, 0 for event 0. Its jiffy is that sum in 384ths divided by 384, rounded down'. Of the events only
+-- what they mean counts here, in played order.
+-- lengths   each event's length, by the values that hold before the first: 'TEM, UTL and UTV hold for the
+--           events after them there'
+-- sum       the sum of some lengths
+-- timeOf    the exact time of an event by its number, in 384ths
+-- jiffyOf   its jiffy
+-- numbers   so many numbers from one on: 'its events numbered from 0'
+-- jiffies   the jiffies of all events
 use Prim.Native.Nat.{ℕ, zero, suc, _+_, _/_}
 use mathlib.Core.List.{List, [], _∷_, map}
 use lib.ListN.{length, take}

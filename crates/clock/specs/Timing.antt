@@ -1,5 +1,5 @@
--- Document 01, 'Playing a voice': what a pair is to the times of its voice. 'TEM, UTL and UTV hold for the events after them'; notes last; 'absolute pitch and
--- commands take 0'.
+-- Document 01, 'Playing a voice': what a pair is to the times of its voice. 'TEM, UTL and UTV hold for the
+-- events after them'; notes last; 'absolute pitch and commands take 0'.
 -- Timing     a note, a value that is set, or nothing of these
 -- timingOf   a pair's, by what the pair means
 use Prim.Native.Nat.{ℕ}

@@ -1,4 +1,5 @@
-// How long an event lasts, exactly, in 384ths of a jiffy, and which values hold behind it, told from its pair's two bytes, for crates of ours.
+// How long an event lasts, exactly, in 384ths of a jiffy, and which values hold after it, by its pair's two
+// bytes. Internal: for our other crates.
 ghost use mathlib.Core.Path.{_≡_};
 ghost use Rattle.pair.specs.Pairs.{meaningOf};
 ghost use Rattle.clock.specs.Lengths.{atStart, lengthOf, valuesAfter};
@@ -34,7 +35,7 @@ pub fn length(values: Values, first: u8, second: u8) -> u32
     }
 }
 
-// internal: the values that hold behind an event. Notes, the commonest, set none.
+// internal: the values that hold after an event. Notes, the commonest, set none.
 pub fn values_after(values: Values, first: u8, second: u8) -> Values
     ensures { λ r. ⌜ r ≡ valuesAfter values (meaningOf first second) ⌝ }
 {

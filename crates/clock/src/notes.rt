@@ -1,8 +1,8 @@
-// The length of a note from its first byte. A 32nd of tempo 1 has 12; each value is twice the next; dotted, triplet and double dotted have 18, 8 and 21
-// for each 12.
+// The length of a note from its first byte. A 32nd of tempo 1 has 12; each value is twice the next; dotted,
+// triplet and double dotted have 18, 8 and 21 for each 12.
 ghost use mathlib.Core.Path.{_≡_};
 ghost use Prim.Native.Nat.{_<_};
-ghost use Rattle.note.specs.Reading.{lengthOf, utilityOf};
+ghost use Rattle.note.specs.Reading.{lengthInByte, utilityOf};
 ghost use Rattle.clock.specs.Lengths.{plainLength, shaped};
 ghost use Rattle.clock.specs.Shares.{thirtySeconds, twelfthsOf};
 use crate::Values;
@@ -46,7 +46,7 @@ fn utility_length(values: Values, bit7: u8, bit5: u8) -> u32
 
 // The length of a note.
 pub fn note_length(values: Values, first: u8) -> u32
-    ensures { λ r. ⌜ r ≡ shaped (lengthOf first .shape) (plainLength values (lengthOf first .duration)) ⌝ }
+    ensures { λ r. ⌜ r ≡ shaped (lengthInByte first .shape) (plainLength values (lengthInByte first .duration)) ⌝ }
 {
     if first == 0 {
         return 0;

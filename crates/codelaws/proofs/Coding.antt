@@ -28,12 +28,12 @@ use Rattle.meaning.specs.declared.Bump.the-variants.{Up, Down}
 use Rattle.meaning.specs.declared.Meaning.{Meaning}
 use Rattle.meaning.specs.declared.Meaning.the-variants as M
 use Rattle.codes.specs.Coding.{count, signed, durationDigits, shapeDigit, tieDigit, letterDigit, accidentalDigit, toneDigits, noteCode, codeOf}
-use Rattle.decoding.specs.Tables.{lookup, durations, shapes, ties, letters, accidentals, above, below, plain, negative}
+use Rattle.decoding.specs.Tables.{lookup, durations, shapes, ties, letters, accidentals, above, below, unsignedCommands, negativeCommands}
 use Rattle.decoding.specs.Decoding.{toneAt, commandAt, decoded}
 use Rattle.codelaws.specs.Statements.{Written, Coded}
 use Rattle.codelaws.proofs.Decoding.{up, down}
 use Rattle.codelaws.proofs.Sizes.{counted-small, phrase-small, destination-small, alone-small, joined-small}
-use Rattle.codelaws.proofs.Sizes.{tempo-small, Small, byte-small, jif-small, dtn-small, tps-small, rtp-small}
+use Rattle.codelaws.proofs.Sizes.{tempo-small, SmallValue, byte-small, jif-small, dtn-small, tps-small, rtp-small}
 use Rattle.codelaws.proofs.Sizes.{SmallTone, tone-small}
 
 -- the last hex digit of a number with one more digit
@@ -44,7 +44,7 @@ digit-1 : (k : ℕ) → (k * 0x10 + 1) % 0x10 ≡ 1
 digit-1 k = omega arith
 
 module _ (id v : ℕ) (least : 0x200 ≤ id) (most : id < 0x400) (small : v ≤ 65535) where
-  pub plain-code : decoded (count id v) ≡ commandAt plain id v
+  pub plain-code : decoded (count id v) ≡ commandAt unsignedCommands id v
   unfolding decoded
   plain-code =
       let n = count id v in
@@ -53,7 +53,7 @@ module _ (id v : ℕ) (least : 0x200 ≤ id) (most : id < 0x400) (small : v ≤ 
       let above : n / 0x10000 ≡ id * 0x10 = omega arith in
       rw (ne-eqb (n / 0x10000000) 1 (λ e. omega arith), above, digit-0 id, at, value)
 
-  pub negative-code : (v ≡ 0 → ⊥) → decoded (id * 0x100000 + 0x10000 + v) ≡ commandAt negative id v
+  pub negative-code : (v ≡ 0 → ⊥) → decoded (id * 0x100000 + 0x10000 + v) ≡ commandAt negativeCommands id v
   unfolding decoded
   negative-code h =
       let n = id * 0x100000 + 0x10000 + v in
@@ -72,17 +72,17 @@ roomy id most e =
     let high = both (ltb id 0x400) (leb most 65535) (low .1) in
     (leb-true 0x200 id (low .0), ltb-true id 0x400 (high .0), leb-true most 65535 (high .1))
 
-pub count-coded : {m : Meaning} {most : ℕ} (id v : ℕ) → v ≤ most → room id most ≡ true → codeOf m ≡ count id v → commandAt plain id v ≡ accepted m → Coded m
+pub count-coded : {m : Meaning} {most : ℕ} (id v : ℕ) → v ≤ most → room id most ≡ true → codeOf m ≡ count id v → commandAt unsignedCommands id v ≡ accepted m → Coded m
 count-coded {m} {most} id v small fits is means =
     let r = roomy id most fits in
     record { low = omega (arith, is); back = ap decoded is ∙ plain-code id v (r .0) (r .1) (omega arith) ∙ means }
 
 -- a command whose value is one of few, or none
-fixed-coded : {m : Meaning} (id v : ℕ) → room id v ≡ true → codeOf m ≡ count id v → commandAt plain id v ≡ accepted m → Coded m
+fixed-coded : {m : Meaning} (id v : ℕ) → room id v ≡ true → codeOf m ≡ count id v → commandAt unsignedCommands id v ≡ accepted m → Coded m
 fixed-coded id v = count-coded {most = v} id v (omega arith)
 
-pub signed-coded : (m : ℤ → Meaning) (id : ℕ) (z : ℤ) → Small z → room id 0 ≡ true → ((y : ℤ) → codeOf (m y) ≡ signed id y)
-    → ((v : ℕ) → commandAt plain id v ≡ above m v) → ((v : ℕ) → commandAt negative id v ≡ below m v) → Coded (m z)
+pub signed-coded : (m : ℤ → Meaning) (id : ℕ) (z : ℤ) → SmallValue z → room id 0 ≡ true → ((y : ℤ) → codeOf (m y) ≡ signed id y)
+    → ((v : ℕ) → commandAt unsignedCommands id v ≡ above m v) → ((v : ℕ) → commandAt negativeCommands id v ≡ below m v) → Coded (m z)
 signed-coded m id (pos n) small fits is plus minus =
     let r = roomy id 0 fits in
     record {

@@ -1,11 +1,11 @@
 -- Decoding gives back what was coded: the meaning that a number decodes to has that number as its code.
--- Is                         a value that has this number, by a function that gives a value's number
--- Right                      an outcome of a number: its meaning's code is the number; a refusal is 43
--- Each, found                what holds of each entry of a table holds of what is found
--- after-part, after-entry    so of what comes after it
+-- Is                        a value that has this number, by a function that gives a value's number
+-- Decodes                   an outcome of a number: its meaning's code is the number; a refusal is 43
+-- Each, found               what holds of each entry of a table holds of what is found
+-- after-part, after-entry   so of what comes after it
 -- durations-right to accidentals-right, tone-found, note-right   a note, digit by digit
 -- switched-right, bumped-right, bare-right, above-right, below-right   a command, by the kind of its value
--- decodes                    so for every number
+-- decodes                   so for every number
 use Prim.Native.Nat.{ℕ, _+_, _*_, _-_, _/_, _%_, _<_}
 use mathlib.Core.Path.{_≡_, refl, sym, _∙_, ap, subst}
 use mathlib.Core.Bool.{Bool, true, false}
@@ -18,11 +18,12 @@ use borrow.Author.Tests.{eqb-true, eqb-false, ne-eqb, lt-leb, lt-ltb, le-ltb}
 use Rattle.logic.specs.Cases.{cases}
 use Rattle.refusals.specs.Numbers.{Outcome}
 use Rattle.refusals.specs.Numbers.Outcome.{accepted, refused}
+use Rattle.refusals.specs.Tests.{andThen}
 use Rattle.meaning.specs.declared.Meaning.{Meaning}
 use Rattle.meaning.specs.declared.Meaning.the-variants as M
 use Rattle.codes.specs.Coding.{durationDigits, shapeDigit, tieDigit, letterDigit, accidentalDigit, toneDigits, signed, codeOf}
-use Rattle.decoding.specs.Tables.{Entry, lookup, durations, shapes, ties, letters, accidentals, switched, bumped, bare, above, below, plain, negative}
-use Rattle.decoding.specs.Decoding.{after, toneAt, noteAt, commandAt, decoded}
+use Rattle.decoding.specs.Tables.{Entry, lookup, durations, shapes, ties, letters, accidentals, asSwitch, asBump, bare, above, below, unsignedCommands, negativeCommands}
+use Rattle.decoding.specs.Decoding.{toneAt, noteAt, commandAt, decoded}
 use Rattle.codelaws.proofs.Facts.{_and_}
 
 abbrev Each : {A : Type 0} → (A → ℕ → Type 0) → List (Entry A) → Type 0
@@ -39,8 +40,8 @@ abbrev Is : {A : Type 0} → (A → ℕ) → A → ℕ → Type 0
 Is f a k = f a ≡ k
 
 -- what an outcome says of a number: its meaning's code is the number
-abbrev pub Right : ℕ → Outcome Meaning → Type 0
-Right n o = Found (Is codeOf) n o
+abbrev pub Decodes : ℕ → Outcome Meaning → Type 0
+Decodes n o = Found (Is codeOf) n o
 
 found : {A : Type 0} (P : A → ℕ → Type 0) (es : List (Entry A)) (k : ℕ) → Each P es → Found P k (lookup es k)
 found P [] k h = (refl, refl)
@@ -49,11 +50,11 @@ found P (e ∷ es) k h =
 
 -- what comes after a part that was found; after one that a table has
 module _ {A B : Type 0} (P : A → ℕ → Type 0) (Q : B → ℕ → Type 0) where
-  after-part : (o : Outcome A) (k n : ℕ) (g : A → Outcome B) → Found P k o → ((a : A) → P a k → Found Q n (g a)) → Found Q n (after o g)
+  after-part : (o : Outcome A) (k n : ℕ) (g : A → Outcome B) → Found P k o → ((a : A) → P a k → Found Q n (g a)) → Found Q n (andThen o g)
   after-part (accepted a) k n g p h = h a p
   after-part (refused number place) k n g p h = p
 
-  after-entry : (es : List (Entry A)) (k n : ℕ) (g : A → Outcome B) → Each P es → ((a : A) → P a k → Found Q n (g a)) → Found Q n (after (lookup es k) g)
+  after-entry : (es : List (Entry A)) (k n : ℕ) (g : A → Outcome B) → Each P es → ((a : A) → P a k → Found Q n (g a)) → Found Q n (andThen (lookup es k) g)
   after-entry es k n g each h = after-part (lookup es k) k n g (found P es k each) h
 
 durations-right : Each (Is durationDigits) durations
@@ -87,7 +88,7 @@ digits n =
     let kind : n / 0x10000000 ≡ n / 0x100000 / 0x100 = omega arith in
     omega arith
 
-note-right : (n : ℕ) → n / 0x10000000 ≡ 1 → Right n (noteAt n)
+note-right : (n : ℕ) → n / 0x10000000 ≡ 1 → Decodes n (noteAt n)
 note-right n one =
     after-entry (Is durationDigits) (Is codeOf) durations (n / 0x100000 % 0x100) n _ durations-right
     (λ d ed. after-entry (Is shapeDigit) (Is codeOf) shapes (n / 0x10000 % 0x10) n _ shapes-right
@@ -97,7 +98,7 @@ note-right n one =
 
 -- a command of a number and a value, with the digits of the sign between them
 abbrev RightFor : ℕ → (ℕ → Type 0) → (ℕ → Outcome Meaning) → ℕ → Type 0
-RightFor sign P m id = (v : ℕ) → P v → Right (id * 0x100000 + sign + v) (m v)
+RightFor sign P m id = (v : ℕ) → P v → Decodes (id * 0x100000 + sign + v) (m v)
 
 abbrev Any : ℕ → Type 0
 Any v = Unit
@@ -111,16 +112,16 @@ zero-one P p q r v = elim (ℕ-discrete v 0) [
   | no a ↦ elim (ℕ-discrete v 1) [ yes e ↦ subst P (sym e) q | no b ↦ r v (omega arith) ]
 ]
 
-switched-right : (m : Bool → Meaning) (id : ℕ) → codeOf (m false) ≡ id * 0x100000 → codeOf (m true) ≡ id * 0x100000 + 1 → RightFor 0 Any (switched m) id
+switched-right : (m : Bool → Meaning) (id : ℕ) → codeOf (m false) ≡ id * 0x100000 → codeOf (m true) ≡ id * 0x100000 + 1 → RightFor 0 Any (asSwitch m) id
 switched-right m id off on v u =
-    zero-one (λ v. Right (id * 0x100000 + 0 + v) (switched m v)) (omega (arith, off)) (omega (arith, on)) (λ v h. rw (lt-leb v 1 h) (refl, refl)) v
+    zero-one (λ v. Decodes (id * 0x100000 + 0 + v) (asSwitch m v)) (omega (arith, off)) (omega (arith, on)) (λ v h. rw (lt-leb v 1 h) (refl, refl)) v
 
-bumped-right : RightFor 0 Any (bumped M.Bmp) 0x303
-bumped-right v u = zero-one (λ v. Right (0x303 * 0x100000 + 0 + v) (bumped M.Bmp v)) refl refl (λ v h. rw (lt-leb v 1 h) (refl, refl)) v
+bumped-right : RightFor 0 Any (asBump M.Bmp) 0x303
+bumped-right v u = zero-one (λ v. Decodes (0x303 * 0x100000 + 0 + v) (asBump M.Bmp v)) refl refl (λ v h. rw (lt-leb v 1 h) (refl, refl)) v
 
 bare-right : (m : Meaning) (id : ℕ) → codeOf m ≡ id * 0x100000 + 0 → RightFor 0 Any (bare m) id
 bare-right m id is v u =
-    zero-one (λ v. Right (id * 0x100000 + 0 + v) (bare m v)) (omega (arith, is)) (refl, refl) (λ v h. rw (ne-eqb v 0 (λ e. omega arith)) (refl, refl)) v
+    zero-one (λ v. Decodes (id * 0x100000 + 0 + v) (bare m v)) (omega (arith, is)) (refl, refl) (λ v h. rw (ne-eqb v 0 (λ e. omega arith)) (refl, refl)) v
 
 pub up : (v : ℕ) → subℕ v 0 ≡ pos v
 up v = rw (le-ltb v 0 (omega arith)) (ap pos (omega arith))
@@ -134,7 +135,7 @@ above-right m id is v u = rw (up v) (is (pos v) ∙ omega arith)
 below-right : (m : ℤ → Meaning) (id : ℕ) → ((z : ℤ) → codeOf (m z) ≡ signed id z) → RightFor 0x10000 NotZero (below m) id
 below-right m id is v h = rw (down v h) (is (negsuc (v - 1)) ∙ omega arith)
 
-plain-right : Each (RightFor 0 Any) plain
+plain-right : Each (RightFor 0 Any) unsignedCommands
 plain-right =
     (λ v u. refl)
     and (λ v u. refl)
@@ -188,7 +189,7 @@ plain-right =
     and (λ v u. refl)
     and tt
 
-negative-right : Each (RightFor 0x10000 NotZero) negative
+negative-right : Each (RightFor 0x10000 NotZero) negativeCommands
 negative-right =
     below-right M.Ps 0x256 (λ z. refl)
     and below-right M.Fs 0x266 (λ z. refl)
@@ -200,19 +201,19 @@ negative-right =
     and below-right M.Dtn 0x20A (λ z. refl)
     and tt
 
-pub decodes : (n : ℕ) → Right n (decoded n)
+pub decodes : (n : ℕ) → Decodes n (decoded n)
 unfolding decoded
 decodes n =
     cases (eqb (n / 0x10000000) 1) (λ e. rw e (note-right n (eqb-true (n / 0x10000000) 1 e)))
     (λ e. rw e
     (cases (eqb sign 0)
-    (λ p. rw p (command 0 plain Any (omega (arith, split, eqb-true sign 0 p)) tt plain-right))
+    (λ p. rw p (command 0 unsignedCommands Any (omega (arith, split, eqb-true sign 0 p)) tt plain-right))
     (λ p. rw p
     (cases (eqb sign 1)
     (λ m. rw m
     (cases (eqb v 0) (λ z. rw z (refl, refl))
     (λ z. rw z
-    (command 0x10000 negative NotZero (omega (arith, split, eqb-true sign 1 m)) (eqb-false v 0 z) negative-right))))
+    (command 0x10000 negativeCommands NotZero (omega (arith, split, eqb-true sign 1 m)) (eqb-false v 0 z) negative-right))))
     (λ m. rw m (refl, refl))))))
   where
     id : ℕ
@@ -228,7 +229,7 @@ decodes n =
     split = let above : n / 0x100000 ≡ n / 0x10000 / 0x10 = omega arith in omega arith
 
     command : (before : ℕ) (table : List (Entry (ℕ → Outcome Meaning))) (P : ℕ → Type 0) → id * 0x100000 + before + v ≡ n → P v
-        → Each (RightFor before P) table → Right n (commandAt table id v)
+        → Each (RightFor before P) table → Decodes n (commandAt table id v)
     command before table P e p each =
-        subst (λ (k : ℕ). Right k (commandAt table id v)) e
+        subst (λ (k : ℕ). Decodes k (commandAt table id v)) e
         (after-entry (RightFor before P) (Is codeOf) table id (id * 0x100000 + before + v) (λ m. m v) each (λ m right. right v p))

@@ -13,11 +13,11 @@ use Rattle.meaning.specs.declared.Meaning.{Meaning}
 use Rattle.meaning.specs.declared.Meaning.the-variants as M
 use Rattle.note.specs.Reading.{noteOf}
 use Rattle.commandtable.specs.Codes.{Command, DCY, RUP, CAL, BMP, FLT, RNG, SNC, F-X, DEF, ATK, SUS, LFO, P&V, RDN, WAV}
-use Rattle.commandtable.specs.Codes.{F-M, RLS, RES, 3-0, VOL, TAL, END, HLT, SRC, DST, none, coded, secondOutcome}
+use Rattle.commandtable.specs.Codes.{F-M, RLS, RES, 3-0, VOL, TAL, END, HLT, SRC, DST, none, secondMeans, secondOutcome}
 use Rattle.commandtable.specs.Codes as codes
 use Rattle.commandtable.specs.Patterns.{O, I, n, byte, number}
 use Rattle.commandsigns.specs.Signs.{outOfRange, signedByte, scaOutcome, tpsOutcome, tpsValue, rtpOutcome, rtpValue, jifOutcome}
-use Rattle.command.specs.Others.{upTo127, pulse, single, joined, found, unassigned, joinedOutcome, otherOutcome}
+use Rattle.command.specs.Others.{upTo127, pulseRows, singleRows, joinedRows, rowFound, unassigned, joinedOutcome, otherOutcome}
 use Rattle.command.specs.RowLaws.{Each, found-holds}
 use Rattle.pair.specs.Pairs.{meaningOf}
 use Rattle.codelaws.specs.Statements.{PairRefused}
@@ -31,7 +31,7 @@ picked : (t : Bool) (x y : Outcome Meaning) → PairRefused x → PairRefused y 
 picked true x y p q = p
 picked false x y p q = q
 
-seconds : (k : Command) (v : ℕ) → PairRefused (codes.meaningOf k v)
+seconds : (k : Command) (v : ℕ) → PairRefused (codes.commandMeaning k v)
 seconds DCY v = tt
 seconds RUP v = tt
 seconds CAL v = tt
@@ -77,7 +77,7 @@ rtp : (v : ℕ) → PairRefused (rtpOutcome v)
 rtp v = picked (leb (v / 8) 22 && leZ (negsuc 46) (rtpValue v) && leZ (rtpValue v) (pos 47)) (accepted (M.Rtp (rtpValue v))) outOfRange tt range
 
 -- row by row, in the tables' order
-singles : (a b : ℕ) → Each PairRefused single a b
+singles : (a b : ℕ) → Each PairRefused singleRows a b
 singles a b =
     (λ q. tt)
     and (λ q. tt)
@@ -103,13 +103,13 @@ singles a b =
 
 others : (a b : ℕ) → PairRefused (otherOutcome a b)
 others a b =
-    found-holds PairRefused pulse a b (found single a b (joinedOutcome a b)) ((λ q. tt) and tt)
-    (found-holds PairRefused single a b (joinedOutcome a b) (singles a b)
-    (found-holds PairRefused joined a b unassigned
+    found-holds PairRefused pulseRows a b (rowFound singleRows a b (joinedOutcome a b)) ((λ q. tt) and tt)
+    (found-holds PairRefused singleRows a b (joinedOutcome a b) (singles a b)
+    (found-holds PairRefused joinedRows a b unassigned
     ((λ q. tt) and (λ q. jif (number (byte n n I I I I I O) a * 256 + b)) and (λ q. tt) and (λ q. tt) and (λ q. tt) and tt)
     (inl refl, refl)))
 
 pub pair-refused : (a b : ℕ) → PairRefused (meaningOf a b)
 pair-refused a b =
     picked (eqb (a % 4) 0) (accepted (M.Note (noteOf a b))) (cond (eqb a 1) (secondOutcome b) (otherOutcome a b)) tt
-    (picked (eqb a 1) (secondOutcome b) (otherOutcome a b) (seconds (coded b .command) (coded b .value)) (others a b))
+    (picked (eqb a 1) (secondOutcome b) (otherOutcome a b) (seconds (secondMeans b .command) (secondMeans b .value)) (others a b))

@@ -18,7 +18,7 @@ use Rattle.refusals.specs.Numbers.{Outcome}
 use Rattle.refusals.specs.Numbers.Outcome.{accepted}
 use Rattle.commandtable.specs.Patterns.{Symbol, O, I, n, byte, fits, number}
 use Rattle.commandsigns.specs.Signs.{detuningOf, jifOutcome}
-use Rattle.command.specs.Others.{Row, pulse, single, found, unassigned, joinedOutcome}
+use Rattle.command.specs.Others.{FirstRow, pulseRows, singleRows, rowFound, unassigned, joinedOutcome}
 
 abbrev arithmetic : List Symbol → (ℕ → Bool) → (ℕ → ℕ) → ℕ → Bool
 arithmetic p test value a = same (fits p a) (test a) && eqb (number p a) (value a)
@@ -31,7 +31,7 @@ as-arithmetic p test value t a h =
       eqb→eq (number p a) (value a) (all-right (same (fits p a) (test a)) (eqb (number p a) (value a)) r),
     )
 
-pub pulse-as : (a b : ℕ) (x : Outcome Meaning) → a < 256 → found pulse a b x ≡ cond (eqb (a % 16) 2) (accepted (Pw (a / 16 * 256 + b))) x
+pub pulse-as : (a b : ℕ) (x : Outcome Meaning) → a < 256 → rowFound pulseRows a b x ≡ cond (eqb (a % 16) 2) (accepted (Pw (a / 16 * 256 + b))) x
 pulse-as a b x h =
     let pw = as-arithmetic (byte n n n n O O I O) (λ k. eqb (k % 16) 2) (λ k. k / 16) tt a h in
     rw (pw .0, pw .1)
@@ -75,16 +75,16 @@ isOneOf (k ∷ ks) a = eqb a k || isOneOf ks a
 abbrev pub singles : List ℕ
 singles = 0x06 ∷ 0x16 ∷ 0x26 ∷ 0x36 ∷ 0x46 ∷ 0x56 ∷ 0x66 ∷ 0x6E ∷ 0x76 ∷ 0x86 ∷ 0x96 ∷ 0xA6 ∷ 0xB6 ∷ 0xC6 ∷ 0xD6 ∷ 0xE6 ∷ 0xF6 ∷ 0x0E ∷ 0x2E ∷ 0x4E ∷ []
 
-abbrev someFits : List Row → ℕ → Bool
+abbrev someFits : List FirstRow → ℕ → Bool
 someFits [] a = false
 someFits (r ∷ rs) a = fits (r .pattern) a || someFits rs a
 
-none-found : (rs : List Row) (a b : ℕ) (x : Outcome Meaning) → someFits rs a ≡ false → found rs a b x ≡ x
+none-found : (rs : List FirstRow) (a b : ℕ) (x : Outcome Meaning) → someFits rs a ≡ false → rowFound rs a b x ≡ x
 none-found [] a b x e = refl
 none-found (r ∷ rs) a b x e =
     let missed = neither (fits (r .pattern) a) (someFits rs a) e in
     rw (missed .0) (none-found rs a b x (missed .1))
 
-pub single-missed : (a b : ℕ) (x : Outcome Meaning) → a < 256 → isOneOf singles a ≡ false → found single a b x ≡ x
+pub single-missed : (a b : ℕ) (x : Outcome Meaning) → a < 256 → isOneOf singles a ≡ false → rowFound singleRows a b x ≡ x
 single-missed a b x h e =
-    none-found single a b x (same-equal (someFits single a) (isOneOf singles a) (every-at (λ k. same (someFits single k) (isOneOf singles k)) 256 tt a h) ∙ e)
+    none-found singleRows a b x (same-equal (someFits singleRows a) (isOneOf singles a) (every-at (λ k. same (someFits singleRows k) (isOneOf singles k)) 256 tt a h) ∙ e)

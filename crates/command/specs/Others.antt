@@ -1,12 +1,15 @@
--- Source 004, 'COMMANDS WHOSE FIRST BYTE IS NOT HEX 01', row by row: the first byte's pattern, and what the number means that its n bits and
--- the second byte make. 'In P-W, MS#, JIF, DTN and POR the first byte's bits stand above the second byte (house).'
--- upTo127      'VDP, PVD, PVR out of range above 127'
--- tempoOf      'TEM 0 means 256'
--- Row, row     a row of the table
--- pulse, single, joined    the rows, in the table's order: P-W; those whose first byte is one byte; those whose value begins in it
--- found        the row that a first byte fits, or what else there is
--- unassigned   27
--- joinedOutcome, otherOutcome   the meaning of a pair by these rows; 'Unassigned: low bits 01 other than 01, and 8E AE CE EE'
+-- Source 004, 'COMMANDS WHOSE FIRST BYTE IS NOT HEX 01', row by row: the first byte's pattern, and what the
+-- number means that its n bits and the second byte make. 'In P-W, MS#, JIF, DTN and POR the first byte's bits
+-- stand above the second byte (house).'
+-- upTo127         'VDP, PVD, PVR out of range above 127'
+-- tempoOf         'TEM 0 means 256'
+-- FirstRow, row   a row of the table
+-- pulseRows, singleRows, joinedRows   the rows, in the table's order: P-W; those whose first byte is one
+--                                     byte; those whose value begins in it
+-- rowFound        the row that a first byte fits, or what else there is
+-- unassigned      27
+-- joinedOutcome, otherOutcome   the meaning of a pair by these rows; 'Unassigned: low bits 01 other than 01,
+--                               and 8E AE CE EE'
 use Prim.Native.Nat.{ℕ, _+_, _*_}
 use mathlib.Core.List.{List, [], _∷_}
 use mathlib.Core.Bool.{cond}
@@ -24,18 +27,18 @@ upTo127 v m = cond (leb v 127) (accepted m) outOfRange
 abbrev pub tempoOf : ℕ → ℕ
 tempoOf v = cond (eqb v 0) 256 v
 
-pub record Row : Type 0 where
+pub record FirstRow : Type 0 where
   pub pattern : List Symbol
   pub means : ℕ → Outcome Meaning
 
-abbrev row : List Symbol → (ℕ → Outcome Meaning) → Row
+abbrev row : List Symbol → (ℕ → Outcome Meaning) → FirstRow
 row p f = record { pattern = p; means = f }
 
-abbrev pub pulse : List Row
-pulse = row (byte n n n n O O I O) (λ v. accepted (Pw v)) ∷ []
+abbrev pub pulseRows : List FirstRow
+pulseRows = row (byte n n n n O O I O) (λ v. accepted (Pw v)) ∷ []
 
-abbrev pub single : List Row
-single =
+abbrev pub singleRows : List FirstRow
+singleRows =
     row (byte O O O O O I I O) (λ v. accepted (Tem (tempoOf v)))
     ∷ row (byte O O O I O I I O) (λ v. accepted (Utl v))
     ∷ row (byte O O I O O I I O) (λ v. accepted (Pnt v))
@@ -58,8 +61,8 @@ single =
     ∷ row (byte O I O O I I I O) (λ v. accepted (Hld v))
     ∷ []
 
-abbrev pub joined : List Row
-joined =
+abbrev pub joinedRows : List FirstRow
+joinedRows =
     row (byte n n O I I I I O) (λ v. accepted (Ms v))
     ∷ row (byte n n I I I I I O) (λ v. jifOutcome v)
     ∷ row (byte n n n O I O I O) (λ v. accepted (Dtn (detuningOf v 0)))
@@ -67,15 +70,15 @@ joined =
     ∷ row (byte n n n n n n I I) (λ v. accepted (Por v))
     ∷ []
 
-abbrev pub found : List Row → ℕ → ℕ → Outcome Meaning → Outcome Meaning
-found [] a b else = else
-found (r ∷ rs) a b else = cond (fits (r .pattern) a) (r .means (number (r .pattern) a * 256 + b)) (found rs a b else)
+abbrev pub rowFound : List FirstRow → ℕ → ℕ → Outcome Meaning → Outcome Meaning
+rowFound [] a b else = else
+rowFound (r ∷ rs) a b else = cond (fits (r .pattern) a) (r .means (number (r .pattern) a * 256 + b)) (rowFound rs a b else)
 
 abbrev pub unassigned : Outcome Meaning
 unassigned = refused (numberOf unassignedPair) 0
 
 abbrev pub joinedOutcome : ℕ → ℕ → Outcome Meaning
-joinedOutcome a b = found joined a b unassigned
+joinedOutcome a b = rowFound joinedRows a b unassigned
 
 abbrev pub otherOutcome : ℕ → ℕ → Outcome Meaning
-otherOutcome a b = found pulse a b (found single a b (joinedOutcome a b))
+otherOutcome a b = rowFound pulseRows a b (rowFound singleRows a b (joinedOutcome a b))

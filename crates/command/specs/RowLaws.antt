@@ -9,18 +9,18 @@ use mathlib.Core.List.{List, [], _∷_}
 use Rattle.meaning.specs.declared.Meaning.{Meaning}
 use Rattle.refusals.specs.Numbers.{Outcome}
 use Rattle.commandtable.specs.Patterns.{fits, number}
-use Rattle.command.specs.Others.{Row, found}
+use Rattle.command.specs.Others.{FirstRow, rowFound}
 
 module _ (P : Outcome Meaning → Type 0) where
   pub picked : (t : Bool) (x y : Outcome Meaning) → (t ≡ true → P x) → P y → P (cond t x y)
   picked true x y p q = p refl
   picked false x y p q = q
 
-  abbrev pub Each : List Row → ℕ → ℕ → Type 0
+  abbrev pub Each : List FirstRow → ℕ → ℕ → Type 0
   Each [] a b = Unit
   Each (r ∷ rs) a b = (fits (r .pattern) a ≡ true → P (r .means (number (r .pattern) a * 256 + b))) × Each rs a b
 
-  pub found-holds : (rs : List Row) (a b : ℕ) (x : Outcome Meaning) → Each rs a b → P x → P (found rs a b x)
+  pub found-holds : (rs : List FirstRow) (a b : ℕ) (x : Outcome Meaning) → Each rs a b → P x → P (rowFound rs a b x)
   found-holds [] a b x e h = h
   found-holds (r ∷ rs) a b x e h =
-      picked (fits (r .pattern) a) (r .means (number (r .pattern) a * 256 + b)) (found rs a b x) (e .0) (found-holds rs a b x (e .1) h)
+      picked (fits (r .pattern) a) (r .means (number (r .pattern) a * 256 + b)) (rowFound rs a b x) (e .0) (found-holds rs a b x (e .1) h)

@@ -1,12 +1,12 @@
 -- Document 01, 'A pair', the sentence 'Signed', with source 004's rows for TPS and RTP.
--- outOfRange   28
--- signedByte   'P-S, F-S, AUT whole byte'
--- detuningOf   'DTN 11 bits, less 2,048 when bit 4 is set'
--- scaOutcome   'SCA -7 to 7'
+-- outOfRange             28
+-- signedByte             'P-S, F-S, AUT whole byte'
+-- detuningOf             'DTN 11 bits, less 2,048 when bit 4 is set'
+-- scaOutcome             'SCA -7 to 7'
 -- tpsValue, tpsOutcome   'TPS by 004, high nibble above 11 out of range'
--- rtpValue, rtpOutcome   'RTP is 12 × (3 - low three bits) + (high five bits - 11); out of range if those five bits exceed 22 or the
---              result leaves -47 to 47'
--- jifOutcome   'JIF ten bits, raw above 823 less 1,024 (house), raw 758 to 823 out of range'
+-- rtpValue, rtpOutcome   'RTP is 12 × (3 - low three bits) + (high five bits - 11); out of range if those
+--                        five bits exceed 22 or the result leaves -47 to 47'
+-- jifOutcome             'JIF ten bits, raw above 823 less 1,024 (house), raw 758 to 823 out of range'
 use Prim.Native.Nat.{ℕ, _+_, _*_, _-_, _/_, _%_}
 use mathlib.Core.Bool.{_&&_, cond}
 use lib.Dec.{eqb, leb, ltb}
@@ -30,7 +30,8 @@ abbrev pub scaOutcome : ℕ → Outcome Meaning
 scaOutcome b =
     cond (leZ (negsuc 6) (signedByte b) && leZ (signedByte b) (pos 7)) (accepted (Sca (signedByte b))) outOfRange
 
--- 'hhhh ooos': for + the octaves are 7 minus ooo and hhhh more half-steps, for - ooo octaves and 11 minus hhhh
+-- 'hhhh ooos': for + the octaves are 7 minus ooo and hhhh more half-steps, for - ooo octaves and 11 minus
+-- hhhh
 abbrev pub tpsValue : ℕ → ℤ
 tpsValue b =
     cond (eqb (b % 2) 0)

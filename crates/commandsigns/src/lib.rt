@@ -1,6 +1,6 @@
 // Signed values of commands, made from the unsigned numbers that stand in the bytes.
 ghost use mathlib.Core.Path.{_≡_};
-ghost use Rattle.meaning.specs.Answers.{toldMeaning};
+ghost use Rattle.meaning.specs.Answers.{outcomeOfMeaning};
 ghost use Rattle.commandsigns.specs.Signs.{outOfRange, signedByte, detuningOf, scaOutcome, tpsOutcome, rtpOutcome, jifOutcome};
 use meaning::Meaning;
 use meaning::Reading;
@@ -29,14 +29,14 @@ pub fn detuning(n: u16, sign: u16) -> i32
 }
 
 fn out_of_range() -> Reading
-    ensures { λ r. ⌜ toldMeaning r ≡ outOfRange ⌝ }
+    ensures { λ r. ⌜ outcomeOfMeaning r ≡ outOfRange ⌝ }
 {
     Reading::Refused(Refusal::unplaced(refusals::VALUE_RANGE))
 }
 
 // internal: SCA of its second byte, or 28.
 pub fn read_sca(second: u8) -> Reading
-    ensures { λ r. ⌜ toldMeaning r ≡ scaOutcome second ⌝ }
+    ensures { λ r. ⌜ outcomeOfMeaning r ≡ scaOutcome second ⌝ }
 {
     if (second <= 7) | (249 <= second) {
         Reading::Means(Meaning::Sca(signed_byte(second as u16)))
@@ -48,7 +48,7 @@ pub fn read_sca(second: u8) -> Reading
 // internal: TPS of its second byte, or 28. Bit 0 is the sign; half-steps below an octave stand in bits 7-4,
 // octaves in bits 3-1, both counted from the other end for one of the signs.
 pub fn read_tps(second: u8) -> Reading
-    ensures { λ r. ⌜ toldMeaning r ≡ tpsOutcome second ⌝ }
+    ensures { λ r. ⌜ outcomeOfMeaning r ≡ tpsOutcome second ⌝ }
 {
     let steps = second as u16 / 16;
     let octaves = second as u16 / 2 % 8;
@@ -62,10 +62,10 @@ pub fn read_tps(second: u8) -> Reading
     }
 }
 
-// internal: RTP of its second byte, or 28. The value 12 × (3 - octaves) + (steps - 11) is counted from the least,
-// -59, so that it stays unsigned.
+// internal: RTP of its second byte, or 28. The value 12 × (3 - octaves) + (steps - 11) is counted from the
+// least, -59, so that it stays unsigned.
 pub fn read_rtp(second: u8) -> Reading
-    ensures { λ r. ⌜ toldMeaning r ≡ rtpOutcome second ⌝ }
+    ensures { λ r. ⌜ outcomeOfMeaning r ≡ rtpOutcome second ⌝ }
 {
     let steps = second as u16 / 8;
     let octaves = second as u16 % 8;
@@ -79,7 +79,7 @@ pub fn read_rtp(second: u8) -> Reading
 
 // internal: JIF of its ten bits, or 28.
 pub fn read_jif(n: u16) -> Reading
-    ensures { λ r. ⌜ toldMeaning r ≡ jifOutcome n ⌝ }
+    ensures { λ r. ⌜ outcomeOfMeaning r ≡ jifOutcome n ⌝ }
 {
     if n <= 757 {
         return Reading::Means(Meaning::Jif(signed::less(n, 0)));

@@ -9,10 +9,10 @@ use lib.Dec.{T, eqb, eqb→eq}
 use lib.ListN.{getD}
 use native.Mathlib.Nat.{zero-add}
 use Rattle.logic.specs.Every.{each, each-at, all-left, all-right}
-use Rattle.commandtable.specs.Codes.{Command, DCY, RUP, CAL, BMP, FLT, RNG, SNC, F-X, DEF, ATK, SUS, LFO, P&V, RDN, WAV, F-M, RLS, RES, 3-0, VOL, TAL, END, HLT, SRC, DST, none, coded, meaningOf, secondOutcome}
-use Rattle.commandtable.specs.Numbering.{numberOf, commandAt}
+use Rattle.commandtable.specs.Codes.{Command, DCY, RUP, CAL, BMP, FLT, RNG, SNC, F-X, DEF, ATK, SUS, LFO, P&V, RDN, WAV, F-M, RLS, RES, 3-0, VOL, TAL, END, HLT, SRC, DST, none, secondMeans, commandMeaning, secondOutcome}
+use Rattle.commandtable.specs.Numbering.{commandNumber, commandNumbered}
 
-pub command-back : (c : Command) → commandAt (numberOf c) ≡ c
+pub command-back : (c : Command) → commandNumbered (commandNumber c) ≡ c
 command-back DCY = refl
 command-back RUP = refl
 command-back CAL = refl
@@ -41,7 +41,7 @@ command-back DST = refl
 command-back none = refl
 
 abbrev pub right : ℕ → ℕ → Bool
-right b x = eqb (x / 256) (numberOf (coded b .command)) && eqb (x % 256) (coded b .value)
+right b x = eqb (x / 256) (commandNumber (secondMeans b .command)) && eqb (x % 256) (secondMeans b .value)
 
 -- the code's table, which the proof of its reader holds to be this
 abbrev pub codes : List ℕ
@@ -67,11 +67,11 @@ codes =
 all-right-entries : T (each right 0 codes)
 all-right-entries = tt
 
-pub agrees : (b : ℕ) → b < 256 → meaningOf (commandAt (getD codes b 0 / 256)) (getD codes b 0 % 256) ≡ secondOutcome b
+pub agrees : (b : ℕ) → b < 256 → commandMeaning (commandNumbered (getD codes b 0 / 256)) (getD codes b 0 % 256) ≡ secondOutcome b
 agrees b h =
     let x = getD codes b 0 in
     let r : T (right b x) = rw (zero-add b) at (each-at right codes 0 b all-right-entries h) in
-    let k = coded b .command in
-    let c = eqb→eq (x / 256) (numberOf k) (all-left (eqb (x / 256) (numberOf k)) (eqb (x % 256) (coded b .value)) r) in
-    let v = eqb→eq (x % 256) (coded b .value) (all-right (eqb (x / 256) (numberOf k)) (eqb (x % 256) (coded b .value)) r) in
+    let k = secondMeans b .command in
+    let c = eqb→eq (x / 256) (commandNumber k) (all-left (eqb (x / 256) (commandNumber k)) (eqb (x % 256) (secondMeans b .value)) r) in
+    let v = eqb→eq (x % 256) (secondMeans b .value) (all-right (eqb (x / 256) (commandNumber k)) (eqb (x % 256) (secondMeans b .value)) r) in
     rw (c, v, command-back k)

@@ -1,12 +1,15 @@
--- Source 004, 'COMMANDS WITH FIRST BYTE = HEX 01', row by row, with document 01's 'Unassigned: 53 6F 7F 83 8B 9F BF CF FF'.
--- Command         the commands of the table in its order, and none
--- Row             a row: the second byte's pattern, the command, and which numbers it may have and what is added to them
--- counts, is, from9, upTo   kinds of rows: every number; a byte with one value; numbers from 1 with 16 added; numbers up to a greatest
--- rows            the table
--- holds           whether a byte fits a row, with a number that the row may have
--- Coded, codedBy, coded   a second byte's command and value: those of the row that it fits
--- bumpOf, meaningOf       what a command and its value mean
--- secondOutcome   the meaning of 01 and a second byte, or 27
+-- Source 004, 'COMMANDS WITH FIRST BYTE = HEX 01', row by row, with document 01's 'Unassigned: 53 6F 7F 83 8B
+-- 9F BF CF FF'.
+-- Command                   the commands of the table in its order, and none
+-- Row                       a row: the second byte's pattern, the command, and which numbers it may have and
+--                           what is added to them
+-- counts, is, from9, upTo   kinds of rows: every number; a byte with one value; numbers from 1 with 16 added;
+--                           numbers up to a greatest
+-- rows                      the table
+-- fitsRow                   whether a byte fits a row, with a number that the row may have
+-- CommandValue, secondBy, secondMeans   a second byte's command and value: those of the row that it fits
+-- bumpOf, commandMeaning    what a command and its value mean
+-- secondOutcome             the meaning of 01 and a second byte, or 27
 use Prim.Native.Nat.{ℕ, _+_}
 use mathlib.Core.Bool.{Bool, _&&_, cond}
 use mathlib.Core.List.{List, [], _∷_}
@@ -83,51 +86,51 @@ rows =
     ∷ is (byte I I I O I I I I) DST 3
     ∷ []
 
-pub record Coded : Type 0 where
+pub record CommandValue : Type 0 where
   pub command : Command
   pub value : ℕ
 
-abbrev pub holds : Row → ℕ → Bool
-holds r b = fits (r .pattern) b && leb (r .least) (number (r .pattern) b) && leb (number (r .pattern) b) (r .most)
+abbrev pub fitsRow : Row → ℕ → Bool
+fitsRow r b = fits (r .pattern) b && leb (r .least) (number (r .pattern) b) && leb (number (r .pattern) b) (r .most)
 
-abbrev pub codedBy : List Row → ℕ → Coded
-codedBy [] b = record { command = none; value = 0 }
-codedBy (r ∷ rs) b =
-    cond (holds r b) (record { command = r .command; value = r .added + number (r .pattern) b }) (codedBy rs b)
+abbrev pub secondBy : List Row → ℕ → CommandValue
+secondBy [] b = record { command = none; value = 0 }
+secondBy (r ∷ rs) b =
+    cond (fitsRow r b) (record { command = r .command; value = r .added + number (r .pattern) b }) (secondBy rs b)
 
-abbrev pub coded : ℕ → Coded
-coded b = codedBy rows b
+abbrev pub secondMeans : ℕ → CommandValue
+secondMeans b = secondBy rows b
 
 abbrev pub bumpOf : ℕ → Bump
 bumpOf v = cond (eqb v 0) Up Down
 
-abbrev pub meaningOf : Command → ℕ → Outcome Meaning
-meaningOf DCY v = accepted (Dcy v)
-meaningOf RUP v = accepted (Rup v)
-meaningOf CAL v = accepted (Cal v)
-meaningOf BMP v = accepted (Bmp (bumpOf v))
-meaningOf FLT v = accepted (Flt (eqb v 1))
-meaningOf RNG v = accepted (Rng (eqb v 1))
-meaningOf SNC v = accepted (Snc (eqb v 1))
-meaningOf F-X v = accepted (Fx (eqb v 1))
-meaningOf DEF v = accepted (Def v)
-meaningOf ATK v = accepted (Atk v)
-meaningOf SUS v = accepted (Sus v)
-meaningOf LFO v = accepted (Lfo v)
-meaningOf P&V v = accepted (Pv (eqb v 1))
-meaningOf RDN v = accepted (Rdn v)
-meaningOf WAV v = accepted (Wav v)
-meaningOf F-M v = accepted (Fm v)
-meaningOf RLS v = accepted (Rls v)
-meaningOf RES v = accepted (Res v)
-meaningOf 3-0 v = accepted (ThreeOff (eqb v 1))
-meaningOf VOL v = accepted (Vol v)
-meaningOf TAL v = accepted Tal
-meaningOf END v = accepted End
-meaningOf HLT v = accepted Hlt
-meaningOf SRC v = accepted (Src v)
-meaningOf DST v = accepted (Dst v)
-meaningOf none v = refused (numberOf unassignedPair) 0
+abbrev pub commandMeaning : Command → ℕ → Outcome Meaning
+commandMeaning DCY v = accepted (Dcy v)
+commandMeaning RUP v = accepted (Rup v)
+commandMeaning CAL v = accepted (Cal v)
+commandMeaning BMP v = accepted (Bmp (bumpOf v))
+commandMeaning FLT v = accepted (Flt (eqb v 1))
+commandMeaning RNG v = accepted (Rng (eqb v 1))
+commandMeaning SNC v = accepted (Snc (eqb v 1))
+commandMeaning F-X v = accepted (Fx (eqb v 1))
+commandMeaning DEF v = accepted (Def v)
+commandMeaning ATK v = accepted (Atk v)
+commandMeaning SUS v = accepted (Sus v)
+commandMeaning LFO v = accepted (Lfo v)
+commandMeaning P&V v = accepted (Pv (eqb v 1))
+commandMeaning RDN v = accepted (Rdn v)
+commandMeaning WAV v = accepted (Wav v)
+commandMeaning F-M v = accepted (Fm v)
+commandMeaning RLS v = accepted (Rls v)
+commandMeaning RES v = accepted (Res v)
+commandMeaning 3-0 v = accepted (ThreeOff (eqb v 1))
+commandMeaning VOL v = accepted (Vol v)
+commandMeaning TAL v = accepted Tal
+commandMeaning END v = accepted End
+commandMeaning HLT v = accepted Hlt
+commandMeaning SRC v = accepted (Src v)
+commandMeaning DST v = accepted (Dst v)
+commandMeaning none v = refused (numberOf unassignedPair) 0
 
 abbrev pub secondOutcome : ℕ → Outcome Meaning
-secondOutcome b = meaningOf (coded b .command) (coded b .value)
+secondOutcome b = commandMeaning (secondMeans b .command) (secondMeans b .value)

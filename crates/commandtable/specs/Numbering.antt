@@ -1,41 +1,42 @@
--- The commands of the first byte 01 by number, in source 004's order from 1, as the code's table of 256 has them; 0 is none.
--- numberOf    a command's number
--- commandAt   a number's command
+-- The commands of the first byte 01 by number, in source 004's order from 1, as the code's table of 256 has
+-- them; 0 is none.
+-- commandNumber     a command's number
+-- commandNumbered   a number's command
 use Prim.Native.Nat.{ℕ}
 use mathlib.Core.Bool.{cond}
 use lib.Dec.{eqb}
 use Rattle.commandtable.specs.Codes.{Command, DCY, RUP, CAL, BMP, FLT, RNG, SNC, F-X, DEF, ATK, SUS, LFO, P&V, RDN, WAV, F-M, RLS, RES, 3-0, VOL, TAL, END, HLT, SRC, DST, none}
 
-abbrev pub numberOf : Command → ℕ
-numberOf DCY = 1
-numberOf RUP = 2
-numberOf CAL = 3
-numberOf BMP = 4
-numberOf FLT = 5
-numberOf RNG = 6
-numberOf SNC = 7
-numberOf F-X = 8
-numberOf DEF = 9
-numberOf ATK = 10
-numberOf SUS = 11
-numberOf LFO = 12
-numberOf P&V = 13
-numberOf RDN = 14
-numberOf WAV = 15
-numberOf F-M = 16
-numberOf RLS = 17
-numberOf RES = 18
-numberOf 3-0 = 19
-numberOf VOL = 20
-numberOf TAL = 21
-numberOf END = 22
-numberOf HLT = 23
-numberOf SRC = 24
-numberOf DST = 25
-numberOf none = 0
+abbrev pub commandNumber : Command → ℕ
+commandNumber DCY = 1
+commandNumber RUP = 2
+commandNumber CAL = 3
+commandNumber BMP = 4
+commandNumber FLT = 5
+commandNumber RNG = 6
+commandNumber SNC = 7
+commandNumber F-X = 8
+commandNumber DEF = 9
+commandNumber ATK = 10
+commandNumber SUS = 11
+commandNumber LFO = 12
+commandNumber P&V = 13
+commandNumber RDN = 14
+commandNumber WAV = 15
+commandNumber F-M = 16
+commandNumber RLS = 17
+commandNumber RES = 18
+commandNumber 3-0 = 19
+commandNumber VOL = 20
+commandNumber TAL = 21
+commandNumber END = 22
+commandNumber HLT = 23
+commandNumber SRC = 24
+commandNumber DST = 25
+commandNumber none = 0
 
-abbrev pub commandAt : ℕ → Command
-commandAt k =
+abbrev pub commandNumbered : ℕ → Command
+commandNumbered k =
     cond (eqb k 1) DCY
     (cond (eqb k 2) RUP
     (cond (eqb k 3) CAL

@@ -1,8 +1,8 @@
 // The second byte of a pair whose first byte is 01, read by a table of 256 codes.
 ghost use mathlib.Core.Path.{_≡_};
-ghost use Rattle.meaning.specs.Answers.{toldMeaning};
-ghost use Rattle.commandtable.specs.Codes.{bumpOf, meaningOf, secondOutcome};
-ghost use Rattle.commandtable.specs.Numbering.{commandAt};
+ghost use Rattle.meaning.specs.Answers.{outcomeOfMeaning};
+ghost use Rattle.commandtable.specs.Codes.{bumpOf, commandMeaning, secondOutcome};
+ghost use Rattle.commandtable.specs.Numbering.{commandNumbered};
 use crate::seconds::CODES;
 use meaning::Bump;
 use meaning::Meaning;
@@ -22,7 +22,7 @@ fn bump_of(n: u16) -> Bump
 
 // A command of the table by its number, and its value.
 fn meaning_at(command: u16, n: u16) -> Reading
-    ensures { λ r. ⌜ toldMeaning r ≡ meaningOf (commandAt command) n ⌝ }
+    ensures { λ r. ⌜ outcomeOfMeaning r ≡ commandMeaning (commandNumbered command) n ⌝ }
 {
     match command {
         1 => Reading::Means(Meaning::Dcy(n)),
@@ -56,7 +56,7 @@ fn meaning_at(command: u16, n: u16) -> Reading
 
 // internal: the command of 01 and a second byte, or 27.
 pub fn read_second(second: u8) -> Reading
-    ensures { λ r. ⌜ toldMeaning r ≡ secondOutcome second ⌝ }
+    ensures { λ r. ⌜ outcomeOfMeaning r ≡ secondOutcome second ⌝ }
 {
     let code = CODES[second as usize];
     meaning_at(code / 256, code % 256)

@@ -1,6 +1,5 @@
-// The table of a second byte after 01.
-// For each second byte the command's number, in source 004's order from 1 (DCY) to 25 (DST), times 256, and the
-// command's value; 0 where the byte is unassigned.
+// The table of a second byte after 01. For each second byte the command's number, in source 004's order from
+// 1 (DCY) to 25 (DST), times 256, and the command's value; 0 where the byte is unassigned.
 pub const CODES: [u16; 256] = [
     0x0100,
     0x0200,

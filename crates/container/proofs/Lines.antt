@@ -1,9 +1,9 @@
 -- Where a line ends, counted from its first byte on. Assumes nothing.
--- Counted                     what is counted up to a byte and what is still to be counted make the length
--- counted-none, -more         nothing is counted, one byte more is
--- counted-closed, -all        the count has met a byte that no line has, or the end
--- end-past                    a line past the end is empty
--- line-short                  no line ends so far out that a sum is too great
+-- Counted                what is counted up to a byte and what is still to be counted make the length
+-- counted-none, -more    nothing is counted, one byte more is
+-- counted-closed, -all   the count has met a byte that no line has, or the end
+-- end-past               a line past the end is empty
+-- line-short             no line ends so far out that a sum is too great
 use Prim.Native.Nat.{ℕ, suc, _+_, _-_, _<_, _≤_, _^_}
 use mathlib.Core.Path.{_≡_}
 use mathlib.Core.Bool.{true, false}
@@ -12,7 +12,7 @@ use native.Mathlib.Omega.{arith}
 use native.Mathlib.Numerals.{add-one}
 use lib.ListN.{length, getD, drop-of-length-le}
 use lib.Seq.{drop-cons}
-use Rattle.container.specs.Text.{closes, lineBytes, lineAt}
+use Rattle.container.specs.Text.{endsLine, lineBytes, lineAt}
 use Rattle.container.specs.TextLaws.{line-within}
 
 module _ (f : List ℕ) where
@@ -32,13 +32,13 @@ module _ (f : List ℕ) where
     Counted n = (from ≤ n) × (n ≤ length f) × (from + length (lineAt f from) ≡ n + length (lineAt f n))
 
     module _ (n : ℕ) (c : Counted n) where
-      pub counted-closed : n < length f → closes (getD f n 0) ≡ true → n ≡ from + length (lineAt f from)
+      pub counted-closed : n < length f → endsLine (getD f n 0) ≡ true → n ≡ from + length (lineAt f from)
       unfolding lineBytes
       counted-closed h e =
           let t : length (lineAt f n) ≡ 0 = rw (drop-cons f n 0 h, e) in
           omega (arith, c .0, c .2)
 
-      pub counted-more : n < length f → closes (getD f n 0) ≡ false → Counted (n + 1)
+      pub counted-more : n < length f → endsLine (getD f n 0) ≡ false → Counted (n + 1)
       unfolding lineBytes
       counted-more h e =
           let t : length (lineAt f n) ≡ suc (length (lineAt f (suc n))) = rw (drop-cons f n 0 h, e) in

@@ -1,12 +1,12 @@
 -- Document 01, 'MUS container': 'Load address (2 bytes), three voice lengths (2 bytes each, low first),
 -- voices, text.'
--- headOf        the numbers of a file
--- badLength     'voice length 0 or odd'
--- voicesEnd     where the voices end and the text begins
--- voicesOf      where the voices lie, one after the other from byte 8 on
--- headTests     21 to 24, in the paper's order
--- toldHead      the paper's number and values for each case of an answer
--- headOutcome   the first of 21 to 24 that applies, else where the voices lie
+-- headOf          the numbers of a file
+-- badLength       'voice length 0 or odd'
+-- voicesEnd       where the voices end and the text begins
+-- voicesOf        where the voices lie, one after the other from byte 8 on
+-- headTests       21 to 24, in the paper's order
+-- outcomeOfHead   the paper's number and values for each case of an answer
+-- headOutcome     the first of 21 to 24 that applies, else where the voices lie
 use Prim.Native.Nat.{ℕ, _+_, _-_, _%_}
 use mathlib.Core.Bool.{Bool, _||_}
 use mathlib.Core.List.{List, [], _∷_}
@@ -60,9 +60,9 @@ headTests x =
     ∷ test voicesPastFile (ltb (x .size) (voicesEnd x))
     ∷ []
 
-abbrev pub toldHead : Heading → Outcome Voices
-toldHead (Fits v) = accepted v
-toldHead (Refused x) = refused (x .number) (x .place)
+abbrev pub outcomeOfHead : Heading → Outcome Voices
+outcomeOfHead (Fits v) = accepted v
+outcomeOfHead (Refused x) = refused (x .number) (x .place)
 
 unfoldable pub headOutcome : List ℕ → Outcome Voices
 headOutcome f = guarded (firstOf (headTests (headOf f))) (accepted (voicesOf (headOf f)))

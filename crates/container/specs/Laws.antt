@@ -1,12 +1,12 @@
 -- A container is right exactly when none of 21 to 26 applies to its file. Laws of such a file.
--- none-layout, layout-none         'exactly when'
--- layout-of                        the layout that is given out
--- line-part, lines-part            the span of a line names the line, so in a layout
--- VoiceFits                        a voice has an even number of bytes, not 0, and lies in the file
--- HeadFits, head-fits              what 21 to 24 leave: a file of at most 65,536 bytes, and three such voices
--- head-none                        an answer with the voices is where they lie, and none of 21 to 24 applies
--- long-head                        a file of more than 65,536 bytes is 22
--- head-first, layout-head          21 to 24 come first; where none of 21 to 26 applies, none of 21 to 24 does
+-- none-layout, layout-none   'exactly when'
+-- layout-of                  the layout that is given out
+-- line-part, lines-part      the span of a line names the line, so in a layout
+-- VoiceFits                  a voice has an even number of bytes, not 0, and lies in the file
+-- HeadFits, head-fits        what 21 to 24 leave: a file of at most 65,536 bytes, and three such voices
+-- head-none                  an answer with the voices is where they lie, and none of 21 to 24 applies
+-- long-head                  a file of more than 65,536 bytes is 22
+-- head-first, layout-head    21 to 24 come first; where none of 21 to 26 applies, none of 21 to 24 does
 -- short-file, voices-within, voice1-fits, ..   the same of a right container
 -- text-right, text-last, text-whole   the text is five lines and a $00, and the file ends with it
 use Prim.Native.Nat.{ℕ, _+_, _-_, _%_, _<_, _≤_}
@@ -28,7 +28,7 @@ use Rattle.fields.specs.Parts.{partOf}
 use Rattle.container.specs.declared.Voices.{Voices}
 use Rattle.container.specs.declared.Layout.{Layout}
 use Rattle.container.specs.Head.{headOf, badLength, voicesEnd, voicesOf, headTests, headOutcome}
-use Rattle.container.specs.Text.{lineStart, line, textFits, textEnd, spanOf, textOf, textTests}
+use Rattle.container.specs.Text.{lineStart, line, textFits, textEnd, spanOfLine, textOf, textTests}
 use Rattle.container.specs.Layout.{textIn, layoutOf, containerTests, containerOutcome}
 use Rattle.container.specs.TextLaws.{take-line}
 use Rattle.container.specs.TextForm.{textForm, text-split}
@@ -45,7 +45,7 @@ pub layout-of : (f : List ℕ) (l : Layout) → containerOutcome f ≡ accepted 
 unfolding containerOutcome
 layout-of f l e = guarded-accepted (firstOf (containerTests f)) l (layoutOf f) e .1
 
-pub line-part : (f : List ℕ) (at i : ℕ) → partOf f (spanOf f (lineStart f at i)) ≡ line f at i
+pub line-part : (f : List ℕ) (at i : ℕ) → partOf f (spanOfLine f (lineStart f at i)) ≡ line f at i
 line-part f at i = take-line (drop (lineStart f at i) f)
 
 pub lines-part : (f : List ℕ)

@@ -4,7 +4,7 @@
 -- textIn             the text of a file
 -- layoutOf           where everything lies
 -- containerTests     21 to 26 of a file, whole
--- toldLayout         the paper's number and values for each case of an answer
+-- outcomeOfLayout    the paper's number and values for each case of an answer
 -- containerOutcome   the first of 21 to 26 that applies, else the layout
 use Prim.Native.Nat.{ℕ}
 use mathlib.Core.List.{List, _++_}
@@ -43,9 +43,9 @@ layoutOf f = placed (voicesOf (headOf f)) (textIn f)
 unfoldable pub containerTests : List ℕ → List Test
 containerTests f = headTests (headOf f) ++ textTests (textIn f) (length f)
 
-abbrev pub toldLayout : Container → Outcome Layout
-toldLayout (Fits l) = accepted l
-toldLayout (Refused x) = refused (x .number) (x .place)
+abbrev pub outcomeOfLayout : Container → Outcome Layout
+outcomeOfLayout (Fits l) = accepted l
+outcomeOfLayout (Refused x) = refused (x .number) (x .place)
 
 unfoldable pub containerOutcome : List ℕ → Outcome Layout
 containerOutcome f = guarded (firstOf (containerTests f)) (accepted (layoutOf f))

@@ -1,17 +1,18 @@
 -- Document 01, 'MUS container': 'Text is five lines of 0 to 32 bytes other than $0D and $00, each closed by
 -- $0D, then one $00; else 25.'
--- closes      $0D and $00, the bytes that no line has
--- lineBytes   the bytes before the first of these
--- lineAt      the line that begins at a byte of the file
--- lineFits    it has 0 to 32 bytes and is closed by $0D
--- nextLine    where the next line begins
--- lineStart   where line i begins, counted from 0, of a text that begins at a byte of the file
--- line        the bytes of line i
--- zeroAt      the file has a $00 at a byte
--- textFits    five lines, 'then one $00'
--- textEnd     where the text ends
--- spanOf, lineOf, textOf   where a line lies, and what is told of a line and of the text
--- textTests   25 and 26, in the paper's order
+-- endsLine                     $0D and $00, the bytes that no line has
+-- lineBytes                    the bytes before the first of these
+-- lineAt                       the line that begins at a byte of the file
+-- lineFits                     it has 0 to 32 bytes and is closed by $0D
+-- nextLine                     where the next line begins
+-- lineStart                    where line i begins, counted from 0, of a text that begins at a byte of the
+--                              file
+-- line                         the bytes of line i
+-- zeroAt                       the file has a $00 at a byte
+-- textFits                     five lines, 'then one $00'
+-- textEnd                      where the text ends
+-- spanOfLine, lineOf, textOf   where a line lies, and what is known of a line and of the text
+-- textTests                    25 and 26, in the paper's order
 use Prim.Native.Nat.{ℕ, zero, suc, _+_}
 use mathlib.Core.Bool.{Bool, not, _&&_, _||_, cond}
 use mathlib.Core.List.{List, [], _∷_}
@@ -23,12 +24,12 @@ use Rattle.fields.specs.declared.Span.{Span}
 use Rattle.container.specs.declared.text.Line.{Line}
 use Rattle.container.specs.declared.text.Text.{Text}
 
-abbrev pub closes : ℕ → Bool
-closes b = eqb b 0x0D || eqb b 0
+abbrev pub endsLine : ℕ → Bool
+endsLine b = eqb b 0x0D || eqb b 0
 
 unfoldable pub lineBytes : List ℕ → List ℕ
 lineBytes [] = []
-lineBytes (b ∷ bs) = cond (closes b) [] (b ∷ lineBytes bs)
+lineBytes (b ∷ bs) = cond (endsLine b) [] (b ∷ lineBytes bs)
 
 abbrev pub lineAt : List ℕ → ℕ → List ℕ
 lineAt f from = lineBytes (drop from f)
@@ -61,20 +62,20 @@ textFits f at =
 abbrev pub textEnd : List ℕ → ℕ → ℕ
 textEnd f at = lineStart f at 5 + 1
 
-abbrev pub spanOf : List ℕ → ℕ → Span
-spanOf f from = record { from = from; len = length (lineAt f from) }
+abbrev pub spanOfLine : List ℕ → ℕ → Span
+spanOfLine f from = record { from = from; len = length (lineAt f from) }
 
 unfoldable pub lineOf : List ℕ → ℕ → Line
-lineOf f from = record { span = spanOf f from; fits = lineFits f from; next = nextLine f from }
+lineOf f from = record { span = spanOfLine f from; fits = lineFits f from; next = nextLine f from }
 
 unfoldable pub textOf : List ℕ → ℕ → Text
 textOf f at =
     record {
-      line1 = spanOf f (lineStart f at 0);
-      line2 = spanOf f (lineStart f at 1);
-      line3 = spanOf f (lineStart f at 2);
-      line4 = spanOf f (lineStart f at 3);
-      line5 = spanOf f (lineStart f at 4);
+      line1 = spanOfLine f (lineStart f at 0);
+      line2 = spanOfLine f (lineStart f at 1);
+      line3 = spanOfLine f (lineStart f at 2);
+      line4 = spanOfLine f (lineStart f at 3);
+      line5 = spanOfLine f (lineStart f at 4);
       fits = textFits f at;
       end = textEnd f at;
     }

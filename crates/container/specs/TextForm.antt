@@ -1,12 +1,12 @@
 -- The text in the paper's words: 25 is answered exactly where the file does not go on with five lines of 0 to
 -- 32 bytes other than $0D and $00, each closed by $0D, and one $00.
--- plain, goodLine   bytes other than $0D and $00, and 0 to 32 of them
--- closedLine        a line, the $0D that closes it, and what follows
--- textForm          five lines, each closed, a $00, and what follows
--- GoodLines         five good lines
--- text-split        a text that fits is its five lines in that form
--- lines-good        and they are good lines
--- text-join         what has that form fits, and ends with the $00
+-- plainBytes, goodLine   bytes other than $0D and $00, and 0 to 32 of them
+-- closedLine             a line, the $0D that closes it, and what follows
+-- textForm               five lines, each closed, a $00, and what follows
+-- GoodLines              five good lines
+-- text-split             a text that fits is its five lines in that form
+-- lines-good             and they are good lines
+-- text-join              what has that form fits, and ends with the $00
 use Prim.Native.Nat.{ℕ, suc, _+_, _<_}
 use mathlib.Core.Path.{_≡_, refl, sym, ap, _∙_}
 use mathlib.Core.Bool.{Bool, true, not, _&&_}
@@ -19,15 +19,15 @@ use lib.Dec.{ltb, leb, eqb}
 use borrow.Author.Tests.{not-true, ltb-true, ltb-false, eqb-true, lt-ltb}
 use Rattle.logic.specs.Cases.{cases}
 use Rattle.logic.specs.Truth.{both}
-use Rattle.container.specs.Text.{closes, lineBytes, lineAt, lineFits, nextLine, lineStart, line, zeroAt, textFits, textEnd}
+use Rattle.container.specs.Text.{endsLine, lineBytes, lineAt, lineFits, nextLine, lineStart, line, zeroAt, textFits, textEnd}
 use Rattle.container.specs.TextLaws.{take-line}
 
-abbrev pub plain : List ℕ → Bool
-plain [] = true
-plain (b ∷ bs) = not (closes b) && plain bs
+abbrev pub plainBytes : List ℕ → Bool
+plainBytes [] = true
+plainBytes (b ∷ bs) = not (endsLine b) && plainBytes bs
 
 abbrev pub goodLine : List ℕ → Bool
-goodLine l = plain l && leb (length l) 32
+goodLine l = plainBytes l && leb (length l) 32
 
 abbrev pub closedLine : List ℕ → List ℕ → List ℕ
 closedLine l rest = l ++ 0x0D ∷ rest
@@ -38,17 +38,17 @@ textForm l1 l2 l3 l4 l5 rest = closedLine l1 (closedLine l2 (closedLine l3 (clos
 abbrev pub GoodLines : List ℕ → List ℕ → List ℕ → List ℕ → List ℕ → Type 0
 GoodLines l1 l2 l3 l4 l5 = (goodLine l1 ≡ true) × (goodLine l2 ≡ true) × (goodLine l3 ≡ true) × (goodLine l4 ≡ true) × (goodLine l5 ≡ true)
 
-line-plain : (s : List ℕ) → plain (lineBytes s) ≡ true
+line-plain : (s : List ℕ) → plainBytes (lineBytes s) ≡ true
 unfolding lineBytes
 line-plain [] = refl
-line-plain (b ∷ bs) = cases (closes b) (λ e. rw e) (λ e. rw (e, e, line-plain bs))
+line-plain (b ∷ bs) = cases (endsLine b) (λ e. rw e) (λ e. rw (e, e, line-plain bs))
 
-plain-line : (l rest : List ℕ) → plain l ≡ true → lineBytes (closedLine l rest) ≡ l
+plain-line : (l rest : List ℕ) → plainBytes l ≡ true → lineBytes (closedLine l rest) ≡ l
 unfolding lineBytes
 plain-line [] rest e = refl
 plain-line (b ∷ bs) rest e =
-    let p = both (not (closes b)) (plain bs) e in
-    rw (not-true (closes b) (p .0)) (ap (λ (l : List ℕ). b ∷ l) (plain-line bs rest (p .1)))
+    let p = both (not (endsLine b)) (plainBytes bs) e in
+    rw (not-true (endsLine b) (p .0)) (ap (λ (l : List ℕ). b ∷ l) (plain-line bs rest (p .1)))
 
 module _ (f : List ℕ) where
   -- a byte that is not 0 lies in the file
@@ -85,7 +85,7 @@ module _ (f : List ℕ) where
   line-join : (s : ℕ) (l rest : List ℕ) → goodLine l ≡ true → drop s f ≡ closedLine l rest
       → (lineAt f s ≡ l) × (lineFits f s ≡ true) × (drop (nextLine f s) f ≡ rest)
   line-join s l rest g e =
-      let p = both (plain l) (leb (length l) 32) g in
+      let p = both (plainBytes l) (leb (length l) 32) g in
       let same : lineAt f s ≡ l = rw e (plain-line l rest (p .0)) in
       let q = byte-join (s + length l) 0x0D rest (sym (drop-drop (length l) s f) ∙ rw e (drop-append-seam l (0x0D ∷ rest))) in
       (same, rw (same, p .1, q .1), rw same (q .2))

@@ -8,17 +8,17 @@ use mathlib.Core.List.{List, [], _∷_}
 use native.Mathlib.Omega.{arith}
 use lib.ListN.{length, take, drop, length-drop}
 use Rattle.logic.specs.Cases.{cases}
-use Rattle.container.specs.Text.{closes, lineBytes, lineAt}
+use Rattle.container.specs.Text.{endsLine, lineBytes, lineAt}
 
 pub take-line : (s : List ℕ) → take (length (lineBytes s)) s ≡ lineBytes s
 unfolding lineBytes
 take-line [] = refl
-take-line (b ∷ bs) = cases (closes b) (λ e. rw e) (λ e. rw e (ap (λ (l : List ℕ). b ∷ l) (take-line bs)))
+take-line (b ∷ bs) = cases (endsLine b) (λ e. rw e) (λ e. rw e (ap (λ (l : List ℕ). b ∷ l) (take-line bs)))
 
 pub length-line : (s : List ℕ) → length (lineBytes s) ≤ length s
 unfolding lineBytes
 length-line [] = omega arith
-length-line (b ∷ bs) = let rest = length-line bs in cases (closes b) (λ e. rw e (omega arith)) (λ e. rw e (omega arith))
+length-line (b ∷ bs) = let rest = length-line bs in cases (endsLine b) (λ e. rw e (omega arith)) (λ e. rw e (omega arith))
 
 pub line-within : (f : List ℕ) (from bound : ℕ) → from ≤ bound → length f ≤ bound → from + length (lineAt f from) ≤ bound
 line-within f from bound h k = omega (arith, length-line (drop from f), length-drop from f)

@@ -1,8 +1,8 @@
 // The container of a Sidplayer MUS file in PRG form: its numbers, its three voices and its five lines of
 // text, each as a part of the lent bytes. What the voices hold is not looked at here.
 ghost use mathlib.Core.Path.{_≡_};
-ghost use Rattle.container.specs.Head.{toldHead, headOutcome};
-ghost use Rattle.container.specs.Layout.{placed, toldLayout, containerOutcome};
+ghost use Rattle.container.specs.Head.{outcomeOfHead, headOutcome};
+ghost use Rattle.container.specs.Layout.{placed, outcomeOfLayout, containerOutcome};
 use fields::Span;
 use refusals::Refusal;
 use refusals::Verdict;
@@ -49,7 +49,7 @@ pub enum Container {
 // internal: where the voices of a file lie, or the first of 21 to 24 that applies. Neither the voices nor
 // what comes after them is looked at.
 pub fn read_head(file: &[u8]) -> Heading
-    ensures { λ r. ⌜ toldHead r ≡ headOutcome (now (file .entry)) ⌝ }
+    ensures { λ r. ⌜ outcomeOfHead r ≡ headOutcome (now (file .entry)) ⌝ }
 {
     let x = head::read_numbers(file);
     match head::test_head(x) {
@@ -84,7 +84,7 @@ fn place(v: Voices, t: Text) -> Layout
 
 // internal: the container of a file, or the first of 21 to 26 that applies.
 pub fn read_container(file: &[u8]) -> Container
-    ensures { λ r. ⌜ toldLayout r ≡ containerOutcome (now (file .entry)) ⌝ }
+    ensures { λ r. ⌜ outcomeOfLayout r ≡ containerOutcome (now (file .entry)) ⌝ }
 {
     match read_head(file) {
         Heading::Refused(x) => Container::Refused(x),

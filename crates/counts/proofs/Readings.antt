@@ -1,9 +1,9 @@
 -- A body read in one pass, pair by pair: the loop of the recursive reading.
--- Sum             its invariant: what the rest of the body comes to, after the counts so far, is what the
---                 whole body comes to
+-- Sum                   its invariant: what the rest of the body comes to, after the counts so far, is what
+--                       the whole body comes to
 -- sum-start, step, joined, sum-end   its start, a step over a part of the body, one that joins the part's
 --                                    counts, and its end
--- running         the counts so far leave room for more
+-- running               the counts so far leave room for more
 -- event-step, call-step, repeat-step, phrase-step   the steps of each kind of pair
 -- deeper, call-deep, repeat-deep, none-deep, phrase-deep   where the allowance is too small
 -- close-end, stop-end   the body closed by a TAL or an END, and by the voice's end
@@ -19,10 +19,10 @@ use Rattle.bodies.specs.Places.{openAt, bodyAt}
 use Rattle.bodies.proofs.Stored.{open-end}
 use Rattle.tally.specs.declared.Counts.{Counts}
 use Rattle.counts.specs.declared.Extent.{Extent}
-use Rattle.tally.specs.Sums.{join, none, more, passes, standing, again}
+use Rattle.tally.specs.Sums.{join, noCounts, more, passes, standing, again}
 use Rattle.counts.specs.Counting.{counting}
-use Rattle.tally.specs.Small.{Small, Running, coded}
-use Rattle.counts.specs.Measures.{heldIn, Cells, readAt, Ready, Measures}
+use Rattle.tally.specs.Small.{Small, Running, packedCounts}
+use Rattle.counts.specs.Measures.{heldIn, Cells, readAt, Measurable, Measures}
 use Rattle.counts.proofs.Kept.{keep-held}
 use Rattle.tally.proofs.Sums.{join-assoc, none-join, more-join, small-join}
 
@@ -40,7 +40,7 @@ pub record Sum (bs cells₀ : List ℕ) (c from : ℕ) (sum : Counts) (at : ℕ)
   pub allowed : c ≤ 16
 
 -- counts of a body have stopped where they should
-none-total : (held : ℕ → Counts) (b : Body) → join none (reading counting held b .total) ≡ reading counting held b .total
+none-total : (held : ℕ → Counts) (b : Body) → join noCounts (reading counting held b .total) ≡ reading counting held b .total
 unfolding reading join
 none-total held (done x) = refl
 none-total held (event x r) = none-join _ _
@@ -48,7 +48,7 @@ none-total held (repeat n i r) = none-join _ _
 none-total held (phrase k i r) = none-join _ _
 none-total held (call k r) = none-join _ _
 
-pub sum-start : (bs cells : List ℕ) (c from : ℕ) (sum : Counts) → sum ≡ none → Ready bs cells c from → Sum bs cells c from sum from cells
+pub sum-start : (bs cells : List ℕ) (c from : ℕ) (sum : Counts) → sum ≡ noCounts → Measurable bs cells c from → Sum bs cells c from sum from cells
 unfolding readAt
 sum-start bs cells c from sum e r =
     rw e
@@ -181,7 +181,7 @@ module _ {bs cells₀ : List ℕ} {c from : ℕ} {sum : Counts} {at : ℕ} {cell
       (omega (arith, g .low)) (g .cells-ready) h
 
   pub phrase-step : (k : ℕ) (m : Extent) (cells′ : List ℕ) (x : ℕ) (sum′ : Counts) → openAt (pairs bs) at ≡ phrase k (inner next) (inner (outer next)) ∷ outer (outer next)
-      → k < 24 → Measures bs cells c (at + 1) m cells′ → x ≡ coded (m .counts) → sum′ ≡ join sum (standing (m .counts)) → Sum bs cells₀ c from sum′ (m .at + 1) (set cells′ k x)
+      → k < 24 → Measures bs cells c (at + 1) m cells′ → x ≡ packedCounts (m .counts) → sum′ ≡ join sum (standing (m .counts)) → Sum bs cells₀ c from sum′ (m .at + 1) (set cells′ k x)
   unfolding reading readAt bodyAt
   phrase-step k m cells′ x sum′ q few g t h =
       let kept = keep-held cells′ k (m .counts) x (g .cells-ready) few (g .small) t in
@@ -193,11 +193,11 @@ module _ {bs cells₀ : List ℕ} {c from : ℕ} {sum : Counts} {at : ℕ} {cell
       (omega (arith, g .low)) (kept .1) h
 
   -- nothing is left of the body
-  sum-end : (sum′ : Counts) (p : ℕ) (x : Closer) → sum′ ≡ join sum none → inner (openAt (pairs bs) at) ≡ done x → outer (openAt (pairs bs) at) ≡ openAt (pairs bs) (p + 1) → from ≤ p → p ≤ length bs / 2
+  sum-end : (sum′ : Counts) (p : ℕ) (x : Closer) → sum′ ≡ join sum noCounts → inner (openAt (pairs bs) at) ≡ done x → outer (openAt (pairs bs) at) ≡ openAt (pairs bs) (p + 1) → from ≤ p → p ≤ length bs / 2
       → Measures bs cells₀ c from (record { counts = sum′; at = p }) cells
   unfolding reading readAt bodyAt
   sum-end sum′ p x e q o l i =
-      let total : readAt bs held at .total ≡ none = rw q in
+      let total : readAt bs held at .total ≡ noCounts = rw q in
       let phrases : readAt bs held at .phrases ≡ held = rw q in
       record {
         counts = e ∙ ap (join sum) (sym total) ∙ s .total;
@@ -205,17 +205,17 @@ module _ {bs cells₀ : List ℕ} {c from : ℕ} {sum : Counts} {at : ℕ} {cell
         closes = sym (s .closes) ∙ o;
         later = l;
         inside = i;
-        small = subst Small (sym e) (small-join sum none (omega (arith, s .low, s .allowed)) (omega arith));
+        small = subst Small (sym e) (small-join sum noCounts (omega (arith, s .low, s .allowed)) (omega arith));
         low = rw e (unfold join in omega (arith, s .low));
         cells-ready = s .cells-ready;
       }
 
-  pub close-end : (sum′ : Counts) (x : Closer) → sum′ ≡ join sum none → at < length bs / 2 → openAt (pairs bs) at ≡ done x ∷ next
+  pub close-end : (sum′ : Counts) (x : Closer) → sum′ ≡ join sum noCounts → at < length bs / 2 → openAt (pairs bs) at ≡ done x ∷ next
       → Measures bs cells₀ c from (record { counts = sum′; at = at }) cells
   unfolding inner outer
   close-end sum′ x e h q = sum-end sum′ at x e (rw q) (rw q) (s .later) (omega arith)
 
-  pub stop-end : (sum′ : Counts) → sum′ ≡ join sum none → length bs / 2 ≤ at → from ≤ length bs / 2 → Measures bs cells₀ c from (record { counts = sum′; at = length bs / 2 }) cells
+  pub stop-end : (sum′ : Counts) → sum′ ≡ join sum noCounts → length bs / 2 ≤ at → from ≤ length bs / 2 → Measures bs cells₀ c from (record { counts = sum′; at = length bs / 2 }) cells
   unfolding inner outer
   stop-end sum′ e h l =
       let ended = open-end bs at h in

@@ -3,12 +3,12 @@
 -- counting   the counts of a body
 use Rattle.bodies.specs.Playing.{Interpretation}
 use Rattle.tally.specs.declared.Counts.{Counts}
-use Rattle.tally.specs.Sums.{join, none, single, passes, standing, again}
+use Rattle.tally.specs.Sums.{join, noCounts, single, passes, standing, again}
 
 abbrev pub counting : Interpretation Counts
 counting =
     record {
-      nothing = none;
+      nothing = noCounts;
       plain = λ e r. join single r;
       repeated = λ n b r. join (passes n b) r;
       defined = λ b r. join (standing b) r;

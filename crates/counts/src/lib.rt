@@ -5,7 +5,7 @@ ghost use lib.ListN.{length};
 ghost use Rattle.bodies.specs.Voice.{pairs};
 ghost use Rattle.bodies.specs.Order.{Sound};
 ghost use Rattle.counts.specs.Limits.{countOutcome};
-ghost use Rattle.counts.specs.Measures.{Ready, Right};
+ghost use Rattle.counts.specs.Measures.{Measurable, MeasureHolds};
 use bodies::Part;
 use tally::Counts;
 
@@ -24,8 +24,8 @@ enum Measured {
 // The counts of the body from a pair on. The cells hold the counts of each phrase closed before it, and then
 // also of those closed in it. Repeats and calls may be in progress allowance deep.
 fn measure(voice: &[u8], cells: &mut [u64; 24], allowance: u32, from: usize) -> Measured
-    requires { ⌜ Ready (now voice) (now cells) allowance from ⌝ }
-    ensures { λ r. ⌜ Right (now (voice .entry)) (now (cells .entry)) allowance from (now (cells .exit)) r ⌝ }
+    requires { ⌜ Measurable (now voice) (now cells) allowance from ⌝ }
+    ensures { λ r. ⌜ MeasureHolds (now (voice .entry)) (now (cells .entry)) allowance from (now (cells .exit)) r ⌝ }
 {
     let n = voice.len() / 2;
     let mut sum = tally::nothing();

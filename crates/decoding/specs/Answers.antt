@@ -1,5 +1,5 @@
--- What the answers of the code's parts say: the value that a digit stands for, or 43.
--- toldDuration, toldShape, toldLetter, toldAccidental, toldTone   for each case of an answer
+-- What the answers of the code's parts say: the value that a digit stands for, or 43. outcomeOfDuration,
+-- outcomeOfShape, outcomeOfLetter, outcomeOfAccidental, outcomeOfTone   for each case of an answer
 use Rattle.meaning.specs.declared.Duration.{Duration}
 use Rattle.meaning.specs.declared.Shape.{Shape}
 use Rattle.meaning.specs.declared.Letter.{Letter}
@@ -17,24 +17,24 @@ use Rattle.decoding.specs.declared.notes.AccidentalAt.{AccidentalAt}
 use Rattle.decoding.specs.declared.notes.AccidentalAt.the-variants as AccidentalAt
 use Rattle.decoding.specs.declared.notes.ToneAt.{ToneAt}
 use Rattle.decoding.specs.declared.notes.ToneAt.the-variants as ToneAt
-use Rattle.decoding.specs.Tables.{none}
+use Rattle.decoding.specs.Tables.{noMeaning}
 
-abbrev pub toldDuration : DurationAt → Outcome Duration
-toldDuration (DurationAt.Is d) = accepted d
-toldDuration DurationAt.None = none
+abbrev pub outcomeOfDuration : DurationAt → Outcome Duration
+outcomeOfDuration (DurationAt.Is d) = accepted d
+outcomeOfDuration DurationAt.None = noMeaning
 
-abbrev pub toldShape : ShapeAt → Outcome Shape
-toldShape (ShapeAt.Is s) = accepted s
-toldShape ShapeAt.None = none
+abbrev pub outcomeOfShape : ShapeAt → Outcome Shape
+outcomeOfShape (ShapeAt.Is s) = accepted s
+outcomeOfShape ShapeAt.None = noMeaning
 
-abbrev pub toldLetter : LetterAt → Outcome Letter
-toldLetter (LetterAt.Is l) = accepted l
-toldLetter LetterAt.None = none
+abbrev pub outcomeOfLetter : LetterAt → Outcome Letter
+outcomeOfLetter (LetterAt.Is l) = accepted l
+outcomeOfLetter LetterAt.None = noMeaning
 
-abbrev pub toldAccidental : AccidentalAt → Outcome Accidental
-toldAccidental (AccidentalAt.Is a) = accepted a
-toldAccidental AccidentalAt.None = none
+abbrev pub outcomeOfAccidental : AccidentalAt → Outcome Accidental
+outcomeOfAccidental (AccidentalAt.Is a) = accepted a
+outcomeOfAccidental AccidentalAt.None = noMeaning
 
-abbrev pub toldTone : ToneAt → Outcome Tone
-toldTone (ToneAt.Is t) = accepted t
-toldTone ToneAt.None = none
+abbrev pub outcomeOfTone : ToneAt → Outcome Tone
+outcomeOfTone (ToneAt.Is t) = accepted t
+outcomeOfTone ToneAt.None = noMeaning

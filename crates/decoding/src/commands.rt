@@ -3,8 +3,8 @@ ghost use mathlib.Core.Path.{_≡_};
 ghost use mathlib.Core.Bool.{cond};
 ghost use lib.Dec.{leb};
 ghost use Rattle.refusals.specs.Numbers.Outcome.{accepted};
-ghost use Rattle.meaning.specs.Answers.{toldMeaning};
-ghost use Rattle.decoding.specs.Tables.{none, bumpAt, bare, plain, negative};
+ghost use Rattle.meaning.specs.Answers.{outcomeOfMeaning};
+ghost use Rattle.decoding.specs.Tables.{noMeaning, bumpAt, bare, unsignedCommands, negativeCommands};
 ghost use Rattle.decoding.specs.Decoding.{commandAt};
 use meaning::Bump;
 use meaning::Meaning;
@@ -21,7 +21,7 @@ fn bump_at(v: u16) -> Bump
 
 // A command whose value is 0 or 1.
 fn up_to_1(v: u16, meaning: Meaning) -> Reading
-    ensures { λ r. ⌜ toldMeaning r ≡ cond (leb v 1) (accepted meaning) none ⌝ }
+    ensures { λ r. ⌜ outcomeOfMeaning r ≡ cond (leb v 1) (accepted meaning) noMeaning ⌝ }
 {
     if v <= 1 {
         Reading::Means(meaning)
@@ -32,7 +32,7 @@ fn up_to_1(v: u16, meaning: Meaning) -> Reading
 
 // A command that has no value.
 fn without_value(v: u16, meaning: Meaning) -> Reading
-    ensures { λ r. ⌜ toldMeaning r ≡ bare meaning v ⌝ }
+    ensures { λ r. ⌜ outcomeOfMeaning r ≡ bare meaning v ⌝ }
 {
     if v == 0 {
         Reading::Means(meaning)
@@ -43,7 +43,7 @@ fn without_value(v: u16, meaning: Meaning) -> Reading
 
 // internal: the command of a number with sign digit 0. One line a command, in source 004's order.
 pub fn plain_at(id: u32, v: u16) -> Reading
-    ensures { λ r. ⌜ toldMeaning r ≡ commandAt plain id v ⌝ }
+    ensures { λ r. ⌜ outcomeOfMeaning r ≡ commandAt unsignedCommands id v ⌝ }
 {
     let above = signed::less(v, 0);
     let set = v == 1;
@@ -105,7 +105,7 @@ pub fn plain_at(id: u32, v: u16) -> Reading
 
 // internal: the command of a number with sign digit 1.
 pub fn negative_at(id: u32, v: u16) -> Reading
-    ensures { λ r. ⌜ toldMeaning r ≡ commandAt negative id v ⌝ }
+    ensures { λ r. ⌜ outcomeOfMeaning r ≡ commandAt negativeCommands id v ⌝ }
 {
     let below = signed::less(0, v);
     let command = match id {

@@ -1,7 +1,7 @@
 // The meaning of a code: docs/INTERFACE.md fixes it. The call answers for every number.
 ghost use mathlib.Core.Path.{_≡_};
-ghost use Rattle.meaning.specs.Answers.{toldMeaning};
-ghost use Rattle.decoding.specs.Tables.{none};
+ghost use Rattle.meaning.specs.Answers.{outcomeOfMeaning};
+ghost use Rattle.decoding.specs.Tables.{noMeaning};
 ghost use Rattle.decoding.specs.Decoding.{decoded};
 use meaning::Reading;
 use refusals::Refusal;
@@ -11,14 +11,14 @@ mod notes;
 
 // No pair has this meaning.
 fn none() -> Reading
-    ensures { λ r. ⌜ toldMeaning r ≡ none ⌝ }
+    ensures { λ r. ⌜ outcomeOfMeaning r ≡ noMeaning ⌝ }
 {
     Reading::Refused(Refusal::unplaced(refusals::NO_PAIR))
 }
 
 // The meaning that a number codes, or 43.
 pub fn meaning_of(code: u32) -> Reading
-    ensures { λ r. ⌜ toldMeaning r ≡ decoded code ⌝ }
+    ensures { λ r. ⌜ outcomeOfMeaning r ≡ decoded code ⌝ }
 {
     if code / 0x10000000 == 1 {
         return notes::note_at(code);

@@ -1,10 +1,10 @@
 // The note of a code, 1DDSTLAO, digit by digit.
 ghost use mathlib.Core.Path.{_≡_};
 ghost use Prim.Native.Nat.{_<_};
-ghost use Rattle.meaning.specs.Answers.{toldMeaning};
+ghost use Rattle.meaning.specs.Answers.{outcomeOfMeaning};
 ghost use Rattle.decoding.specs.Tables.{lookup, durations, shapes, letters, accidentals};
 ghost use Rattle.decoding.specs.Decoding.{toneAt, noteAt};
-ghost use Rattle.decoding.specs.Answers.{toldDuration, toldShape, toldLetter, toldAccidental, toldTone};
+ghost use Rattle.decoding.specs.Answers.{outcomeOfDuration, outcomeOfShape, outcomeOfLetter, outcomeOfAccidental, outcomeOfTone};
 use meaning::Accidental;
 use meaning::Duration;
 use meaning::Letter;
@@ -42,7 +42,7 @@ pub enum ToneAt {
 }
 
 fn duration_at(digits: u32) -> DurationAt
-    ensures { λ r. ⌜ toldDuration r ≡ lookup durations digits ⌝ }
+    ensures { λ r. ⌜ outcomeOfDuration r ≡ lookup durations digits ⌝ }
 {
     match digits {
         0x01 => DurationAt::Is(Duration::Whole),
@@ -60,7 +60,7 @@ fn duration_at(digits: u32) -> DurationAt
 }
 
 fn shape_at(digit: u32) -> ShapeAt
-    ensures { λ r. ⌜ toldShape r ≡ lookup shapes digit ⌝ }
+    ensures { λ r. ⌜ outcomeOfShape r ≡ lookup shapes digit ⌝ }
 {
     match digit {
         0 => ShapeAt::Is(Shape::Plain),
@@ -72,7 +72,7 @@ fn shape_at(digit: u32) -> ShapeAt
 }
 
 fn letter_at(digit: u32) -> LetterAt
-    ensures { λ r. ⌜ toldLetter r ≡ lookup letters digit ⌝ }
+    ensures { λ r. ⌜ outcomeOfLetter r ≡ lookup letters digit ⌝ }
 {
     match digit {
         0xC => LetterAt::Is(Letter::C),
@@ -87,7 +87,7 @@ fn letter_at(digit: u32) -> LetterAt
 }
 
 fn accidental_at(digit: u32) -> AccidentalAt
-    ensures { λ r. ⌜ toldAccidental r ≡ lookup accidentals digit ⌝ }
+    ensures { λ r. ⌜ outcomeOfAccidental r ≡ lookup accidentals digit ⌝ }
 {
     match digit {
         0xF => AccidentalAt::Is(Accidental::Flat),
@@ -102,7 +102,7 @@ fn accidental_at(digit: u32) -> AccidentalAt
 // The three last digits of a note.
 fn tone_at(digits: u32) -> ToneAt
     requires { ⌜ digits < 0x1000 ⌝ }
-    ensures { λ r. ⌜ toldTone r ≡ toneAt digits ⌝ }
+    ensures { λ r. ⌜ outcomeOfTone r ≡ toneAt digits ⌝ }
 {
     if digits == 0 {
         return ToneAt::Is(Tone::Rest);
@@ -125,7 +125,7 @@ fn tone_at(digits: u32) -> ToneAt
 
 // internal: the note of a code whose first digit is 1.
 pub fn note_at(code: u32) -> Reading
-    ensures { λ r. ⌜ toldMeaning r ≡ noteAt code ⌝ }
+    ensures { λ r. ⌜ outcomeOfMeaning r ≡ noteAt code ⌝ }
 {
     let duration = match duration_at(code / 0x100000 % 0x100) {
         DurationAt::Is(duration) => duration,

@@ -1,18 +1,18 @@
 -- Laws of a listing: when it is refused, what each cell holds after it, and how two listings go together.
--- told-once                     no two answers are told alike
+-- listed-once                 no two answers have the same outcome
 -- voice-first, lengths-next, file-last   what a call comes to: 41 by the voice, then 42 by the lists, then
 --                                        what the file comes to
--- refused-unchanged             a refusal leaves both lists as they were
--- Answered, accepted-window     any other answer is that of the voice asked for, of an accepted file
--- countIn                       how many of some cells a voice fills
--- numbersOf                     the pair numbers of events
--- cell-offset, cell-jiffy       each cell below the count holds the offset, the jiffy, of its event
--- cell-beyond                   every other cell keeps its old content
--- length-kept                   no list changes its length
--- past-the-end                  past the end nothing is listed
--- two-windows                   a listing in two parts is the listing in one
--- jiffies-never-fall            the jiffies listed never fall
--- meet-again                    events of equal exact time share a jiffy, whichever voices they are of
+-- refused-unchanged           a refusal leaves both lists as they were
+-- Answered, accepted-window   any other answer is that of the voice asked for, of an accepted file
+-- countIn                     how many of some cells a voice fills
+-- numbersOf                   the pair numbers of events
+-- cell-offset, cell-jiffy     each cell below the count holds the offset, the jiffy, of its event
+-- cell-beyond                 every other cell keeps its old content
+-- length-kept                 no list changes its length
+-- past-the-end                past the end nothing is listed
+-- two-windows                 a listing in two parts is the listing in one
+-- jiffies-never-fall          the jiffies listed never fall
+-- meet-again                  events of equal exact time share a jiffy, whichever voices they are of
 use Prim.Native.Nat.{ℕ, zero, suc, _+_, _-_, _*_, _≤_, _<_}
 use mathlib.Core.Path.{_≡_, refl, sym, ap, _∙_}
 use mathlib.Core.Bool.{true, false, _||_}
@@ -26,7 +26,7 @@ use lib.ListN.{length, take, drop, getD, length-take, length-drop, length-map}
 use borrow.Author.Tests.{eq-eqb, ne-eqb, eqb-true, not-false}
 use Rattle.refusals.specs.Numbers.{Outcome}
 use Rattle.refusals.specs.Numbers.Outcome.{accepted, refused}
-use Rattle.refusals.specs.Tests.{firstOf, guarded}
+use Rattle.refusals.specs.Tests.{firstOf, guarded, andThen}
 use Rattle.refusals.specs.Laws.{passed-none, two-ways, guarded-passed, refused-once}
 use Rattle.clock.specs.Times.{timeOf, jiffyOf}
 use Rattle.clock.specs.Running.{length-jiffies, jiffies-at}
@@ -34,22 +34,22 @@ use Rattle.clock.specs.Laws.{jiffies-rise, same-time}
 use Rattle.bodies.specs.Bodies.{Event}
 use Rattle.mus.specs.declared.Voice.{Voice}
 use Rattle.mus.specs.declared.Song.{Song}
-use Rattle.mus.specs.Song.{next, musOutcome}
+use Rattle.mus.specs.Song.{musOutcome}
 use Rattle.mus.specs.Asked.{songVoice, voiceAsked}
 use Rattle.mus.specs.AskedLaws.{file-next, asked-accepted}
 use Rattle.cells.specs.Laws.{filled-length, filled-at, filled-beyond, filled-split}
 use Rattle.walk.specs.Times.{offsetsOf, meanings, jiffiesOf}
 use Rattle.events.specs.declared.Listed.{Listed}
 use Rattle.events.specs.declared.Listed.the-variants.{Count, Refused}
-use Rattle.events.specs.Listing.{callerTests, playedIn, countOf, windowIn, filledBy, listing, told}
+use Rattle.events.specs.Listing.{callerTests, playedIn, countOf, windowIn, filledBy, listing, outcomeOfListed}
 
 -- 'An answer may be an enum. In that case, a definition gives this paper's number and values for each of the
 -- enum's cases'
-pub told-once : (a b : Listed) → told a ≡ told b → a ≡ b
-told-once (Count m) (Count n) e = let same : m ≡ n = cc in rw same
-told-once (Count m) (Refused y) e = absurd (two-ways (sym e))
-told-once (Refused x) (Count n) e = absurd (two-ways e)
-told-once (Refused x) (Refused y) e = ap Refused (refused-once {X = ℕ} x y e)
+pub listed-once : (a b : Listed) → outcomeOfListed a ≡ outcomeOfListed b → a ≡ b
+listed-once (Count m) (Count n) e = let same : m ≡ n = cc in rw same
+listed-once (Count m) (Refused y) e = absurd (two-ways (sym e))
+listed-once (Refused x) (Count n) e = absurd (two-ways e)
+listed-once (Refused x) (Refused y) e = ap Refused (refused-once {X = ℕ} x y e)
 
 pub record Answered (f : List ℕ) (voice first : ℕ) (os js : List ℕ) : Type 0 where
   pub song : Song
@@ -70,7 +70,7 @@ module _ (f : List ℕ) (voice first : ℕ) (os js : List ℕ) where
   lengths-next e n = rw (e, ne-eqb (length os) (length js) n)
 
   -- '40, 41 and 42 are tested before the file, in that order'
-  pub file-last : ltb voice 1 || ltb 3 voice ≡ false → length os ≡ length js → listing f voice first os js ≡ filledBy f first os js (next (musOutcome f) (λ s. accepted (songVoice s voice)))
+  pub file-last : ltb voice 1 || ltb 3 voice ≡ false → length os ≡ length js → listing f voice first os js ≡ filledBy f first os js (andThen (musOutcome f) (λ s. accepted (songVoice s voice)))
   unfolding listing
   file-last e same = rw (e, eq-eqb (length os) (length js) same, file-next f voice e)
 
@@ -189,10 +189,10 @@ module _ (f : List ℕ) (v : Voice) (first : ℕ) (os js : List ℕ) where
       omega (arith, cell-jiffy i (omega arith), cell-jiffy j below, jiffies-rise (meanings (playedIn f v)) (first + i) (first + j) (omega arith))
 
 -- 'Its jiffy is that sum in 384ths divided by 384, rounded down'
-pub meet-again : (f g : List ℕ) (v w : Voice) (first next : ℕ) (os js ps ks : List ℕ) (i j : ℕ) → i < countIn f v first os → j < countIn g w next ps
-    → timeOf (meanings (playedIn f v)) (first + i) ≡ timeOf (meanings (playedIn g w)) (next + j)
-    → getD (windowIn f v first os js .jiffies) i 0 ≡ getD (windowIn g w next ps ks .jiffies) j 0
-meet-again f g v w first next os js ps ks i j hi hj e =
+pub meet-again : (f g : List ℕ) (v w : Voice) (first andThen : ℕ) (os js ps ks : List ℕ) (i j : ℕ) → i < countIn f v first os → j < countIn g w andThen ps
+    → timeOf (meanings (playedIn f v)) (first + i) ≡ timeOf (meanings (playedIn g w)) (andThen + j)
+    → getD (windowIn f v first os js .jiffies) i 0 ≡ getD (windowIn g w andThen ps ks .jiffies) j 0
+meet-again f g v w first andThen os js ps ks i j hi hj e =
     cell-jiffy f v first os js i hi
-    ∙ same-time (meanings (playedIn f v)) (meanings (playedIn g w)) (first + i) (next + j) e
-    ∙ sym (cell-jiffy g w next ps ks j hj)
+    ∙ same-time (meanings (playedIn f v)) (meanings (playedIn g w)) (first + i) (andThen + j) e
+    ∙ sym (cell-jiffy g w andThen ps ks j hj)

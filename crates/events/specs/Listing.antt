@@ -3,17 +3,17 @@
 -- many, 0 past the end, and what lies beyond keeps its old content.' Demand 3 is the equation between a call
 -- and listing, which is made of the played-out voice (crates/bodies/specs/Playing.antt), its exact times
 -- (crates/clock/specs/Times.antt) and the lists as they were.
--- callerTests    'voice not 1 to 3', 'two lists of unequal length': '40, 41 and 42 are tested before the
---                file, in that order'
--- playedIn       the played-out voice
--- countOf        'How many is the lesser of the lists' length and the number of events from the first one
---                asked for to the end'
--- Listing        what a call leaves: its answer, and both lists
--- windowIn       what it leaves for a voice
--- filledBy       what it leaves, by the voice or the refusal: 'A refusal .. changes no lent memory'
--- listing        what it leaves for a file: 41, then 42, then the file's own refusal, then the voice
---                (crates/mus/specs/Asked.antt)
--- told           what an answer says
+-- callerTests       'voice not 1 to 3', 'two lists of unequal length': '40, 41 and 42 are tested before the
+--                   file, in that order'
+-- playedIn          the played-out voice
+-- countOf           'How many is the lesser of the lists' length and the number of events from the first one
+--                   asked for to the end'
+-- Listing           what a call leaves: its answer, and both lists
+-- windowIn          what it leaves for a voice
+-- filledBy          what it leaves, by the voice or the refusal: 'A refusal .. changes no lent memory'
+-- listing           what it leaves for a file: 41, then 42, then the file's own refusal, then the voice
+--                   (crates/mus/specs/Asked.antt)
+-- outcomeOfListed   what an answer says
 use Prim.Native.Nat.{ℕ, _-_, min}
 use mathlib.Core.Bool.{not, _||_}
 use mathlib.Core.List.{List, [], _∷_}
@@ -61,6 +61,6 @@ filledBy f first os js (refused number place) = record { answer = refused number
 unfoldable pub listing : List ℕ → ℕ → ℕ → List ℕ → List ℕ → Listing
 listing f voice first os js = filledBy f first os js (guarded (firstOf (callerTests voice (length os) (length js))) (voiceAsked f voice))
 
-abbrev pub told : Listed → Outcome ℕ
-told (Count n) = accepted n
-told (Refused x) = refused (x .number) (x .place)
+abbrev pub outcomeOfListed : Listed → Outcome ℕ
+outcomeOfListed (Count n) = accepted n
+outcomeOfListed (Refused x) = refused (x .number) (x .place)

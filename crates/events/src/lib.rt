@@ -4,9 +4,9 @@ ghost use mathlib.Core.Path.{_≡_};
 ghost use Prim.Native.Nat.{_-_, min};
 ghost use lib.ListN.{length};
 ghost use Rattle.mus.specs.Bounds.{InSong};
-ghost use Rattle.events.specs.Listing.{windowIn, listing, told};
+ghost use Rattle.events.specs.Listing.{windowIn, listing, outcomeOfListed};
 use mus::Voice;
-use mus::VoiceReading;
+use mus::VoiceAnswer;
 use refusals::Refusal;
 
 // The answer to a listing: how many cells of each list are filled, or why none is.
@@ -34,7 +34,7 @@ fn count_of(events: u32, first: u64, cells: usize) -> usize
 // Fills the lists, which are of one length, from a voice of an accepted file.
 fn list_part(file: &[u8], v: Voice, first: u64, offsets: &mut [u32], jiffies: &mut [u32]) -> Listed
     requires { ⌜ (InSong (now file) v) × (length (now offsets) ≡ length (now jiffies)) ⌝ }
-    ensures { λ r. ⌜ record { answer = told r; offsets = now (offsets .exit); jiffies = now (jiffies .exit) } ≡ windowIn (now (file .entry)) v first (now (offsets .entry)) (now (jiffies .entry)) ⌝ }
+    ensures { λ r. ⌜ record { answer = outcomeOfListed r; offsets = now (offsets .exit); jiffies = now (jiffies .exit) } ≡ windowIn (now (file .entry)) v first (now (offsets .entry)) (now (jiffies .entry)) ⌝ }
 {
     let from = v.offset;
     let len = v.length;
@@ -56,7 +56,7 @@ fn list_part(file: &[u8], v: Voice, first: u64, offsets: &mut [u32], jiffies: &m
 // many, as many as there are and as the lists hold. Refused with 41 for any other voice, 42 for lists of
 // unequal length, or the file's own refusal; no cell but those that are filled changes.
 pub fn list(file: &[u8], voice: u32, first: u64, offsets: &mut [u32], jiffies: &mut [u32]) -> Listed
-    ensures { λ r. ⌜ record { answer = told r; offsets = now (offsets .exit); jiffies = now (jiffies .exit) } ≡ listing (now (file .entry)) voice first (now (offsets .entry)) (now (jiffies .entry)) ⌝ }
+    ensures { λ r. ⌜ record { answer = outcomeOfListed r; offsets = now (offsets .exit); jiffies = now (jiffies .exit) } ≡ listing (now (file .entry)) voice first (now (offsets .entry)) (now (jiffies .entry)) ⌝ }
 {
     if (voice < 1) | (3 < voice) {
         return Listed::Refused(Refusal::unplaced(refusals::VOICE_NUMBER));
@@ -65,7 +65,7 @@ pub fn list(file: &[u8], voice: u32, first: u64, offsets: &mut [u32], jiffies: &
         return Listed::Refused(Refusal::unplaced(refusals::LIST_LENGTHS));
     }
     match mus::read_voice(file, voice) {
-        VoiceReading::Refused(x) => Listed::Refused(x),
-        VoiceReading::Accepted(v) => list_part(file, v, first, offsets, jiffies),
+        VoiceAnswer::Refused(x) => Listed::Refused(x),
+        VoiceAnswer::Accepted(v) => list_part(file, v, first, offsets, jiffies),
     }
 }

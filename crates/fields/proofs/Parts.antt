@@ -8,7 +8,7 @@ use native.Mathlib.Omega.{arith}
 use lib.ListN.{length, take, drop, length-drop, drop-of-length-le}
 use lib.Seq.{take-all, take-nil}
 use Rattle.fields.specs.Parts.{before}
-use Rattle.fields.specs.Entries.{startOf, entryAt}
+use Rattle.fields.specs.Entries.{entryStart, entryAt}
 use Rattle.fields.specs.Laws.{take-before}
 
 module _ (s : List ℕ) (from len : ℕ) where
@@ -23,8 +23,8 @@ module _ (s : List ℕ) (from len : ℕ) where
       take-all (length s - from) (drop from s) (simp length-drop (omega arith))
       ∙ sym (take-all len (drop from s) (simp length-drop (omega arith)))
 
-pub entry-cut : (list rest entry : List ℕ) (mark number from n : ℕ) → from ≡ startOf list mark number → rest ≡ take (length list) (drop from list) → n ≡ length (before mark rest) → entry ≡ take n (drop 0 rest) → entry ≡ entryAt list mark number
+pub entry-cut : (list rest entry : List ℕ) (mark number from n : ℕ) → from ≡ entryStart list mark number → rest ≡ take (length list) (drop from list) → n ≡ length (before mark rest) → entry ≡ take n (drop 0 rest) → entry ≡ entryAt list mark number
 unfolding entryAt
 entry-cut list rest entry mark number from n f r l t =
-    let whole : rest ≡ drop (startOf list mark number) list = r ∙ take-all (length list) (drop from list) (simp length-drop (omega arith)) ∙ rw f in
+    let whole : rest ≡ drop (entryStart list mark number) list = r ∙ take-all (length list) (drop from list) (simp length-drop (omega arith)) ∙ rw f in
     rw (t, l) (take-before mark rest ∙ rw whole)

@@ -5,7 +5,7 @@ ghost use Prim.Native.Nat.{_+_, _*_, _≤_};
 ghost use lib.ListN.{length, getD, take, drop};
 ghost use Rattle.fields.specs.Numbers.{be16, be32, le16};
 ghost use Rattle.fields.specs.Parts.{partOf, before, put};
-ghost use Rattle.fields.specs.Entries.{startOf, entryAt};
+ghost use Rattle.fields.specs.Entries.{entryStart, entryAt};
 
 // A part of lent bytes: its first byte and how many.
 pub struct Span {
@@ -101,7 +101,7 @@ pub fn length_before(s: &[u8], mark: u8) -> usize
 
 // Where the part of a list begins that has number marks before it; the end where there are fewer.
 fn start_of(list: &[u8], mark: u8, number: usize) -> usize
-    ensures { λ r. ⌜ r ≡ startOf (now (list .entry)) mark number ⌝ }
+    ensures { λ r. ⌜ r ≡ entryStart (now (list .entry)) mark number ⌝ }
 {
     let mut left = number;
     let mut i = 0;

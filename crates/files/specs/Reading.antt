@@ -1,4 +1,5 @@
--- What the reading of a file answers, for its contract. Which bytes a file has is the machine's to say; that no more are counted than the list holds is ours.
+-- What the reading of a file answers, for its contract. Which bytes a file has is the machine's to say; that
+-- no more are counted than the list holds is ours.
 -- Within   the bytes that were read lie in the list
 use Prim.Native.Nat.{ℕ}
 use mathlib.Core.List.{List}

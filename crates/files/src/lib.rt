@@ -4,7 +4,8 @@ ghost use Prim.Native.Nat.{_≤_, min};
 ghost use lib.ListN.{length};
 ghost use Rattle.files.specs.Reading.{Within};
 
-// How many bytes were read; or the machine's error number, where the file was not opened, and where it was opened and not read.
+// How many bytes were read; or the machine's error number, where the file was not opened, and where it was
+// opened and not read.
 pub enum Loaded {
     Bytes(usize),
     NotOpened(i32),
@@ -17,7 +18,7 @@ fn lesser(a: usize, b: usize) -> usize
     if a < b { a } else { b }
 }
 
-// The rest of a file that is open, behind the bytes that were read, until it ends or the list is full.
+// The rest of a file that is open, after the bytes that were read, until it ends or the list is full.
 fn read_rest(fd: i32, out: &mut [u8], from: usize) -> Loaded
     requires { ⌜ from ≤ length (now out) ⌝ }
     ensures { λ r. ⌜ Within r (now (out .exit)) ⌝ }

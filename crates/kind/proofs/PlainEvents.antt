@@ -1,6 +1,6 @@
 -- What is plain is an event.
--- not-among           a number that is none of some, as the last arm of a match knows it
--- plain-event         so for every two bytes
+-- not-among     a number that is none of some, as the last arm of a match knows it
+-- plain-event   so for every two bytes
 use Prim.Native.Nat.{ℕ, _%_, _<_}
 use mathlib.Core.Path.{_≡_, refl, sym, _∙_}
 use mathlib.Core.Bool.{true, false, not, _&&_, _||_, cond}
@@ -9,7 +9,7 @@ use lib.Dec.{eqb, ltb}
 use borrow.Author.Tests.{eqb-true, ne-eqb, ltb-true, not-true}
 use Rattle.logic.specs.Cases.{cases}
 use Rattle.logic.specs.Truth.{both}
-use Rattle.logic.specs.LastArm.{Others, known}
+use Rattle.logic.specs.LastArm.{Others, others-known}
 use Rattle.logic.specs.Every.{every-at, implied}
 use Rattle.commandtable.specs.Codes.{secondOutcome}
 use Rattle.command.specs.Others.{otherOutcome}
@@ -23,7 +23,7 @@ use Rattle.kind.proofs.Rows.{second-as, por-event, rest-event}
 
 pub not-among : (T : Type 0) (xs : List ℕ) (k : ℕ) → Others (λ x. x) T xs k → among xs k ≡ false
 not-among T [] k o = refl
-not-among T (x ∷ xs) k o = rw (ne-eqb k x (known (λ y. y) (T × (k ≡ x → ⊥)) xs k o .1)) (not-among (T × (k ≡ x → ⊥)) xs k o)
+not-among T (x ∷ xs) k o = rw (ne-eqb k x (others-known (λ y. y) (T × (k ≡ x → ⊥)) xs k o .1)) (not-among (T × (k ≡ x → ⊥)) xs k o)
 
 second-event : (b : ℕ) → b < 256 → plainSecond (b % 16) ≡ true → kindOf (secondOutcome b) ≡ Event
 second-event b h e =

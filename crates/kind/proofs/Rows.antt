@@ -1,6 +1,7 @@
--- The code's tests of a pair's two bytes tell the kinds of source 004's rows, each shown by a test over all 256 bytes.
--- second-as      behind 01, by the second byte's low nibble
--- ranged-as      behind a first byte whose value has a range, by the second byte
+-- The code's tests of a pair's two bytes tell the kinds of source 004's rows, each shown by a test over all
+-- 256 bytes.
+-- second-as            after 01, by the second byte's low nibble
+-- ranged-as            after a first byte whose value has a range, by the second byte
 -- por-event, low-bad   by the first byte alone: low bits 11; low bits 00 and 01
 -- rest-event           low bits 10: every first byte but those that are apart is an event's
 use Prim.Native.Nat.{ℕ, _%_, _<_}
@@ -14,7 +15,7 @@ use borrow.Author.Tests.{eqb-true, ne-eqb, not-true}
 use Rattle.logic.specs.Cases.{cases}
 use Rattle.logic.specs.Every.{every, every-at, true-of}
 use Rattle.commandtable.specs.Codes.{secondOutcome}
-use Rattle.command.specs.Others.{single, found, joinedOutcome, otherOutcome}
+use Rattle.command.specs.Others.{singleRows, rowFound, joinedOutcome, otherOutcome}
 use Rattle.command.proofs.Firsts.{isOneOf, singles, pulse-as, single-missed, joined-as}
 use Rattle.kind.specs.declared.Kind.the-variants.{Event, Bad}
 use Rattle.kind.specs.Kinds.{kindOf}
@@ -37,7 +38,7 @@ joined-kind : (a b : ℕ) → a < 256 → (a % 16 ≡ 2 → ⊥) → (a % 16 ≡
 joined-kind a b h p q r =
     let test = true-of (eqb (a % 16) 6 || eqb (a % 16) 14 || not (isOneOf singles a)) (every-at (λ k. eqb (k % 16) 6 || eqb (k % 16) 14 || not (isOneOf singles k)) 256 tt a h) in
     let none = not-true (isOneOf singles a) (rw (ne-eqb (a % 16) 6 q, ne-eqb (a % 16) 14 r) at test) in
-    let other : otherOutcome a b ≡ joinedOutcome a b = rw (pulse-as a b (found single a b (joinedOutcome a b)) h, ne-eqb (a % 16) 2 p) (single-missed a b (joinedOutcome a b) h none) in
+    let other : otherOutcome a b ≡ joinedOutcome a b = rw (pulse-as a b (rowFound singleRows a b (joinedOutcome a b)) h, ne-eqb (a % 16) 2 p) (single-missed a b (joinedOutcome a b) h none) in
     rw (other, joined-as a b h, ne-eqb (a % 64) 0x1E (λ e. r (omega arith)), ne-eqb (a % 64) 0x3E (λ e. r (omega arith)))
     (cases (eqb (a % 16) 0x0A) (λ s. rw s) (λ s. cases (eqb (a % 4) 3) (λ t. rw (s, t)) (λ t. rw (s, t))))
 
@@ -73,7 +74,7 @@ sorted a = not (eqb (a % 4) 2) || eqb (a % 16) 2 || eqb (a % 16) 0x0A || isOneOf
 pub rest-event : (a b : ℕ) → a < 256 → b < 256 → a % 4 ≡ 2 → isOneOf apart a ≡ false → kindOf (otherOutcome a b) ≡ Event
 rest-event a b ha hb e none =
     elim (ℕ-discrete (a % 16) 2) [
-      | yes p ↦ rw (pulse-as a b (found single a b (joinedOutcome a b)) ha, p)
+      | yes p ↦ rw (pulse-as a b (rowFound singleRows a b (joinedOutcome a b)) ha, p)
       | no p ↦
           elim (ℕ-discrete (a % 16) 0x0A) [
             | yes q ↦ joined-kind a b ha p (λ r. omega arith) (λ r. omega arith) ∙ rw q

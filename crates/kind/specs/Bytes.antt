@@ -1,9 +1,10 @@
--- Kinds as the code tells them from the bytes; proofs/Rows.antt proves them the kinds of source 004's rows. Document 01, 'A pair', first byte
--- 01: 'Unassigned: 53 6F 7F 83 8B 9F BF CF FF. DEF and CAL nibbles 9-F in the n3 and nB rows mean 17 to 23.'
+-- Kinds as the code tells them from the bytes; proofs/Rows.antt proves them the kinds of source 004's rows.
+-- Document 01, 'A pair', first byte 01: 'Unassigned: 53 6F 7F 83 8B 9F BF CF FF. DEF and CAL nibbles 9-F in
+-- the n3 and nB rows mean 17 to 23.'
 -- eventUnless        an event, or 27 where the pair is unassigned
 -- eventIf            an event, or 28 where the value is not in its range
--- row3, rowB, rowF   a second byte behind 01 whose low nibble is 3, B or F
--- secondKind         every second byte behind 01
+-- row3, rowB, rowF   a second byte after 01 whose low nibble is 3, B or F
+-- secondKind         every second byte after 01
 use Prim.Native.Nat.{ℕ, _+_, _/_, _%_}
 use mathlib.Core.Bool.{Bool, _||_, cond}
 use lib.Dec.{eqb, leb}

@@ -1,5 +1,6 @@
--- Document 01, 'Playing a voice': what a pair is to the structure of its voice. 'Events are all pairs but HED, TAL, DEF, END, CAL'; HLT is an
--- event too, with a kind of its own since tests 29 and 30 look for it; a pair that is refused is known by its number, 27 or 28.
+-- Document 01, 'Playing a voice': what a pair is to the structure of its voice. 'Events are all pairs but
+-- HED, TAL, DEF, END, CAL'; HLT is an event too, with a kind of its own since tests 29 and 30 look for it; a
+-- pair that is refused is known by its number, 27 or 28.
 -- kindOf     a pair's kind, by what the pair means
 -- Numbered   the bounds of a kind's number: HED's is one byte, and DEF's and CAL's are 0 to 23
 use Prim.Native.Nat.{_<_}

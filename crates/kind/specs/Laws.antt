@@ -21,7 +21,7 @@ use Rattle.commandtable.specs.Patterns as Pattern
 use Rattle.commandtable.specs.Patterns.{byte, number}
 use Rattle.commandtable.specs.Codes.{secondOutcome}
 use Rattle.commandsigns.specs.Signs.{outOfRange, signedByte, scaOutcome, tpsValue, tpsOutcome, rtpValue, rtpOutcome, jifOutcome}
-use Rattle.command.specs.Others.{pulse, single, joined, found, unassigned, upTo127, joinedOutcome, otherOutcome}
+use Rattle.command.specs.Others.{pulseRows, singleRows, joinedRows, rowFound, unassigned, upTo127, joinedOutcome, otherOutcome}
 use Rattle.command.specs.RowLaws.{picked, Each, found-holds}
 use Rattle.command.specs.Pair.{commandOutcome}
 use Rattle.pair.specs.Pairs.{meaningOf}
@@ -111,20 +111,20 @@ jif v =
     picked Bounded (leb v 757) (accepted (Jif (subℕ v 0))) (cond (leb v 823) outOfRange (accepted (Jif (subℕ v 1024)))) (λ t. tt)
     (picked Bounded (leb v 823) outOfRange (accepted (Jif (subℕ v 1024))) (λ t. tt) tt)
 
-single-bounded : (a b : ℕ) → b < 256 → Each Bounded single a b
+single-bounded : (a b : ℕ) → b < 256 → Each Bounded singleRows a b
 single-bounded a b h =
     let v = 0 * 256 + b in
     let hed : T (ltb v 256) = rw (lt-ltb v 256 (omega arith)) tt in
     (λ t. tt, (λ t. tt, (λ t. tt, (λ t. hed, (λ t. tt, (λ t. tt, (λ t. tt, (λ t. sca v, (λ t. up-to-127 v (Vdp v) tt, (λ t. tt, (λ t. tt, (λ t. tps v, (λ t. tt, (λ t. up-to-127 v (Pvd v) tt, (λ t. up-to-127 v (Pvr v) tt, (λ t. tt, (λ t. tt, (λ t. tt, (λ t. rtp v, (λ t. tt, tt))))))))))))))))))))
 
-joined-bounded : (a b : ℕ) → Each Bounded joined a b
+joined-bounded : (a b : ℕ) → Each Bounded joinedRows a b
 joined-bounded a b = (λ t. tt, (λ t. jif (number (byte Pattern.n Pattern.n Pattern.I Pattern.I Pattern.I Pattern.I Pattern.I Pattern.O) a * 256 + b), (λ t. tt, (λ t. tt, (λ t. tt, tt)))))
 
 pair-bounded : (a b : ℕ) → b < 256 → Bounded (meaningOf a b)
 pair-bounded a b h =
-    let third = found-holds Bounded joined a b unassigned (joined-bounded a b) tt in
-    let second = found-holds Bounded single a b (joinedOutcome a b) (single-bounded a b h) third in
-    let other = found-holds Bounded pulse a b (found single a b (joinedOutcome a b)) (λ t. tt, tt) second in
+    let third = found-holds Bounded joinedRows a b unassigned (joined-bounded a b) tt in
+    let second = found-holds Bounded singleRows a b (joinedOutcome a b) (single-bounded a b h) third in
+    let other = found-holds Bounded pulseRows a b (rowFound singleRows a b (joinedOutcome a b)) (λ t. tt, tt) second in
     let coded = every-at (λ k. bounded (kindOf (secondOutcome k))) 256 tt b h in
     picked Bounded (eqb (a % 4) 0) (accepted (Note (noteOf a b))) (commandOutcome a b) (λ t. tt)
     (picked Bounded (eqb a 1) (secondOutcome b) (otherOutcome a b) (λ t. coded) other)

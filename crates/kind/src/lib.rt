@@ -1,4 +1,5 @@
-// What a pair is to the structure of its voice, told fast from its two bytes, for crates of ours.
+// What a pair is to the structure of its voice, found fast from its two bytes. Internal: for our other
+// crates.
 ghost use mathlib.Core.Path.{_≡_};
 ghost use Rattle.pair.specs.Pairs.{meaningOf};
 ghost use Rattle.kind.specs.Kinds.{kindOf};
@@ -8,8 +9,8 @@ mod others;
 mod plain;
 mod seconds;
 
-// An event, one of the pairs that make bodies, HLT, or a pair that is refused, with the number 27 or 28. HLT is an event too;
-// it has a kind of its own since tests 29 and 30 look for it.
+// An event, one of the pairs that make bodies, HLT, or a pair that is refused, with the number 27 or 28. HLT
+// is an event too; it has a kind of its own since tests 29 and 30 look for it.
 pub enum Kind {
     Event,
     Hed(u16),
@@ -35,8 +36,8 @@ pub fn kind_of(first: u8, second: u8) -> Kind
     }
 }
 
-// internal: tests of a pair's two bytes that only events pass, and most events do. Loops over pairs ask this first: a yes or no costs less than a kind, which comes back
-// through memory.
+// internal: tests of a pair's two bytes that only events pass, and most events do. Loops over pairs ask this
+// first: a yes or no costs less than a kind, which comes back through memory.
 pub fn is_plain(first: u8, second: u8) -> bool
     ensures { λ r. ⌜ r ≡ isPlain first second ⌝ }
 {

@@ -16,9 +16,10 @@ fn event_if(within: bool) -> Kind
     }
 }
 
-// POR first, then what low bits leave unassigned; of low bits 10 only HED, the first bytes whose value has a range and 8E AE
-// CE EE need a look. JIF's raw 758 to 823 are BE F6 to BE FF and FE 00 to FE 37. TPS is out of range from C0 on. RTP's five
-// high bits exceed 22 from B8 on, and its result is below -47 where the low three bits are 7 and the second byte is below 60.
+// POR first, then what low bits leave unassigned; of low bits 10 only HED, the first bytes whose value has a
+// range and 8E AE CE EE need a look. JIF's raw 758 to 823 are BE F6 to BE FF and FE 00 to FE 37. TPS is out
+// of range from C0 on. RTP's five high bits exceed 22 from B8 on, and its result is below -47 where the low
+// three bits are 7 and the second byte is below 60.
 pub fn other_kind(first: u8, second: u8) -> Kind
     ensures { λ r. ⌜ r ≡ kindOf (otherOutcome first second) ⌝ }
 {

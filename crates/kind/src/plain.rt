@@ -2,7 +2,8 @@
 ghost use mathlib.Core.Path.{_≡_};
 ghost use Rattle.kind.specs.Plain.{plainSecond, plainFirst};
 
-// A low nibble of a second byte behind 01: those of CAL and DEF, and those with a pair that is no event, are left out.
+// A low nibble of a second byte after 01: those of CAL and DEF, and those with a pair that is no event, are
+// left out.
 pub fn plain_second(nibble: u8) -> bool
     ensures { λ r. ⌜ r ≡ plainSecond nibble ⌝ }
 {
@@ -16,7 +17,8 @@ pub fn plain_second(nibble: u8) -> bool
     }
 }
 
-// Any other first byte: POR, and of low bits 10 all but HED, those whose value has a range, and those that are unassigned.
+// Any other first byte: POR, and of low bits 10 all but HED, those whose value has a range, and those that
+// are unassigned.
 pub fn plain_first(first: u8) -> bool
     ensures { λ r. ⌜ r ≡ plainFirst first ⌝ }
 {

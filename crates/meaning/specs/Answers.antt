@@ -1,8 +1,9 @@
--- Document 01, 'What comes back' and 'A pair': what each case of the answers' enums is, as a value or a refusal's number and place.
--- Bytes       the two bytes of a pair
--- toldMeaning what a reading answers
--- toldBytes   what a spelling answers
--- toldStep    what a half-step's answer is
+-- Document 01, 'What comes back' and 'A pair': what each case of the answers' enums is, as a value or a
+-- refusal's number and place.
+-- Bytes            the two bytes of a pair
+-- outcomeOfMeaning what a reading answers
+-- outcomeOfBytes   what a spelling answers
+-- outcomeOfStep    what a half-step's answer is
 use Prim.Native.Nat.{ℕ}
 use lib.IntN.{ℤ}
 use Rattle.meaning.specs.declared.Meaning.{Meaning}
@@ -19,14 +20,14 @@ pub record Bytes : Type 0 where
   pub first : ℕ
   pub second : ℕ
 
-abbrev pub toldMeaning : Reading → Outcome Meaning
-toldMeaning (Reading.Means m) = accepted m
-toldMeaning (Reading.Refused x) = refused (x .number) (x .place)
+abbrev pub outcomeOfMeaning : Reading → Outcome Meaning
+outcomeOfMeaning (Reading.Means m) = accepted m
+outcomeOfMeaning (Reading.Refused x) = refused (x .number) (x .place)
 
-abbrev pub toldBytes : Spelling → Outcome Bytes
-toldBytes (Spelling.Bytes a b) = accepted (record { first = a; second = b })
-toldBytes (Spelling.Refused x) = refused (x .number) (x .place)
+abbrev pub outcomeOfBytes : Spelling → Outcome Bytes
+outcomeOfBytes (Spelling.Bytes a b) = accepted (record { first = a; second = b })
+outcomeOfBytes (Spelling.Refused x) = refused (x .number) (x .place)
 
-abbrev pub toldStep : HalfStep → Outcome ℤ
-toldStep (HalfStep.Step z) = accepted z
-toldStep (HalfStep.Refused x) = refused (x .number) (x .place)
+abbrev pub outcomeOfStep : HalfStep → Outcome ℤ
+outcomeOfStep (HalfStep.Step z) = accepted z
+outcomeOfStep (HalfStep.Refused x) = refused (x .number) (x .place)

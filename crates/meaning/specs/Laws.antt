@@ -1,5 +1,6 @@
 -- Laws of answers and of pitches.
--- meaning-once, bytes-once, step-once   no two answers are told alike: an equation of what is told leaves the answer no freedom
+-- meaning-once, bytes-once, step-once   no two answers have the same outcome: an equation of outcomes leaves
+--                                       the answer no freedom
 -- octave-low, letter-low, raised-low   the bounds of a half-step's parts
 use Prim.Native.Nat.{ℕ, _≤_}
 use mathlib.Core.Path.{_≡_, ap}
@@ -22,7 +23,7 @@ use Rattle.meaning.specs.declared.Spelling.{Spelling}
 use Rattle.meaning.specs.declared.Spelling.the-variants as Spelling
 use Rattle.meaning.specs.declared.HalfStep.{HalfStep}
 use Rattle.meaning.specs.declared.HalfStep.the-variants as HalfStep
-use Rattle.meaning.specs.Answers.{Bytes, toldMeaning, toldBytes, toldStep}
+use Rattle.meaning.specs.Answers.{Bytes, outcomeOfMeaning, outcomeOfBytes, outcomeOfStep}
 use Rattle.meaning.specs.Pitches.{inTables, hasAccidental, letterStep, raisedBy}
 
 pub octave-low : (p : Pitch) → inTables p ≡ true → p .octave ≤ 7
@@ -44,13 +45,13 @@ raised-low Sharp = lit≤ tt
 raised-low DoubleSharp = lit≤ tt
 raised-low DoubleFlat = lit≤ tt
 
-pub meaning-once : (a b : Reading) → toldMeaning a ≡ toldMeaning b → a ≡ b
+pub meaning-once : (a b : Reading) → outcomeOfMeaning a ≡ outcomeOfMeaning b → a ≡ b
 meaning-once (Reading.Means m) (Reading.Means n) e = let same : m ≡ n = cc in rw same
 meaning-once (Reading.Means m) (Reading.Refused y) e = let z : _≡_ {A = ℕ} 0 1 = cc in absurd (omega arith)
 meaning-once (Reading.Refused x) (Reading.Means n) e = let z : _≡_ {A = ℕ} 0 1 = cc in absurd (omega arith)
 meaning-once (Reading.Refused x) (Reading.Refused y) e = ap Reading.Refused (refused-once {X = Meaning} x y e)
 
-pub bytes-once : (a b : Spelling) → toldBytes a ≡ toldBytes b → a ≡ b
+pub bytes-once : (a b : Spelling) → outcomeOfBytes a ≡ outcomeOfBytes b → a ≡ b
 bytes-once (Spelling.Bytes a b) (Spelling.Bytes c d) e =
     let same : _≡_ {A = Bytes} (record { first = a; second = b }) (record { first = c; second = d }) = cc in
     λ i. Spelling.Bytes (same i .first) (same i .second)
@@ -58,7 +59,7 @@ bytes-once (Spelling.Bytes a b) (Spelling.Refused y) e = let z : _≡_ {A = ℕ}
 bytes-once (Spelling.Refused x) (Spelling.Bytes c d) e = let z : _≡_ {A = ℕ} 0 1 = cc in absurd (omega arith)
 bytes-once (Spelling.Refused x) (Spelling.Refused y) e = ap Spelling.Refused (refused-once {X = Bytes} x y e)
 
-pub step-once : (a b : HalfStep) → toldStep a ≡ toldStep b → a ≡ b
+pub step-once : (a b : HalfStep) → outcomeOfStep a ≡ outcomeOfStep b → a ≡ b
 step-once (HalfStep.Step y) (HalfStep.Step z) e = let same : y ≡ z = cc in rw same
 step-once (HalfStep.Step y) (HalfStep.Refused x) e = let z : _≡_ {A = ℕ} 0 1 = cc in absurd (omega arith)
 step-once (HalfStep.Refused x) (HalfStep.Step z) e = let z : _≡_ {A = ℕ} 0 1 = cc in absurd (omega arith)

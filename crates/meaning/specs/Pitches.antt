@@ -1,10 +1,10 @@
 -- Document 01, 'A pair', the second byte of a note: which pitches there are, and the half-step of each.
 -- doubleIsSharp, hasAccidental   '00 double sharp for C D F G and double flat for E A B'
--- inTables                       a pitch that some second byte has: octave 0 to 7, and an accidental of its letter
--- letterStep                     '0 2 4 5 7 9 11 for C to B'
--- raisedBy, loweredBy            the accidental, as half-steps up and down
--- halfStep                       '12 × octave + .. + accidental, so -1 to 96'
--- stepOutcome                    the call's answer: 43 outside the tables
+-- inTables              a pitch that some second byte has: octave 0 to 7, and an accidental of its letter
+-- letterStep            '0 2 4 5 7 9 11 for C to B'
+-- raisedBy, loweredBy   the accidental, as half-steps up and down
+-- halfStep              '12 × octave + .. + accidental, so -1 to 96'
+-- stepOutcome           the call's answer: 43 outside the tables
 use Prim.Native.Nat.{ℕ, _+_, _*_}
 use mathlib.Core.Bool.{Bool, true, false, not, _&&_, cond}
 use lib.Dec.{leb}

@@ -1,6 +1,6 @@
 // What a pair of a MUS voice means: the types, and the half-step of a pitch.
 ghost use mathlib.Core.Path.{_≡_};
-ghost use Rattle.meaning.specs.Answers.{toldStep};
+ghost use Rattle.meaning.specs.Answers.{outcomeOfStep};
 ghost use Rattle.meaning.specs.Pitches.{inTables, stepOutcome};
 use refusals::Refusal;
 
@@ -69,8 +69,8 @@ pub enum Bump {
     Down,
 }
 
-// A pair's meaning: a note, or a command by source 004's abbreviation with its value. Where 004 has NO and YES, false and
-// true; Wav and Fm hold the number of bits 7-5.
+// A pair's meaning: a note, or a command by source 004's abbreviation with its value. Where 004 has NO and
+// YES, false and true; Wav and Fm hold the number of bits 7-5.
 pub enum Meaning {
     Note(Note),
     Dcy(u16),
@@ -155,7 +155,7 @@ pub fn in_tables(pitch: Pitch) -> bool
 
 // The half-step of a pitch, -1 to 96; a pitch that no pair has is refused with 43.
 pub fn half_step(pitch: Pitch) -> HalfStep
-    ensures { λ r. ⌜ toldStep r ≡ stepOutcome pitch ⌝ }
+    ensures { λ r. ⌜ outcomeOfStep r ≡ stepOutcome pitch ⌝ }
 {
     if in_tables(pitch) {
         let letter = pitch.letter;

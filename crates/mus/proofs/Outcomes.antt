@@ -1,12 +1,12 @@
 -- The order of the tests, as the code meets it.
 -- pairs-refused, structure-refused, both-clear   a voice by what its passes found
--- clear-sound        a voice in which they found nothing has sound bodies
--- pair-number-few    the pair that they found has a small number
--- part-short         a part of a file is no longer than the file
+-- clear-sound       a voice in which they found nothing has sound bodies
+-- pair-number-few   the pair that they found has a small number
+-- part-short        a part of a file is no longer than the file
 -- first-refused, second-refused, third-refused, all-sound   a file by its voices
--- in-file            what a right container says of the places of its voices
+-- in-file           what a right container says of the places of its voices
 -- container-refused, container-fits   a file by its container
--- file-answered      a voice by its number, by the file
+-- file-answered     a voice by its number, by the file
 use Prim.Native.Nat.{ℕ, _+_, _*_, _≤_}
 use mathlib.Core.Path.{_≡_, subst}
 use mathlib.Core.Bool.{false, _||_}
@@ -16,6 +16,7 @@ use lib.Dec.{ltb}
 use lib.ListN.{length, take, drop, length-take, length-drop}
 use Rattle.refusals.specs.Numbers.{Outcome}
 use Rattle.refusals.specs.Numbers.Outcome.{accepted, refused}
+use Rattle.refusals.specs.Tests.{andThen}
 use Rattle.container.specs.declared.Layout.{Layout}
 use Rattle.container.specs.Layout.{containerOutcome}
 use Rattle.container.specs.Laws.{layout-none, layout-of, short-file, voice1-fits, voice2-fits, voice3-fits}
@@ -31,7 +32,7 @@ use Rattle.counts.specs.Limits.{countOutcome}
 use Rattle.mus.specs.declared.Voice.{Voice}
 use Rattle.mus.specs.Voices.{limited, voiceOutcome}
 use Rattle.mus.specs.declared.Song.{Song}
-use Rattle.mus.specs.Song.{next, voiceIn, songWith, songIn, musOutcome}
+use Rattle.mus.specs.Song.{voiceIn, songWith, songIn, musOutcome}
 use Rattle.mus.specs.Bounds.{InFile}
 use Rattle.mus.specs.Asked.{songVoice, voiceAsked}
 use Rattle.mus.specs.AskedLaws.{file-next}
@@ -94,5 +95,5 @@ pub container-refused : (f : List ℕ) (n p : ℕ) → containerOutcome f ≡ re
 unfolding musOutcome
 container-refused f n p e = rw e
 
-pub file-answered : (f : List ℕ) (n : ℕ) → ltb n 1 || ltb 3 n ≡ false → (o : Outcome Song) → o ≡ musOutcome f → next o (λ s. accepted (songVoice s n)) ≡ voiceAsked f n
+pub file-answered : (f : List ℕ) (n : ℕ) → ltb n 1 || ltb 3 n ≡ false → (o : Outcome Song) → o ≡ musOutcome f → andThen o (λ s. accepted (songVoice s n)) ≡ voiceAsked f n
 file-answered f n inside o e = rw (file-next f n inside, e)

@@ -11,10 +11,10 @@ use lib.Dec.{eqb, ltb}
 use lib.ListN.{take, drop}
 use Rattle.refusals.specs.Numbers.{Outcome, voiceNumber}
 use Rattle.refusals.specs.Numbers.Outcome.{accepted}
-use Rattle.refusals.specs.Tests.{Test, test, firstOf, guarded}
+use Rattle.refusals.specs.Tests.{Test, test, firstOf, guarded, andThen}
 use Rattle.mus.specs.declared.Voice.{Voice}
 use Rattle.mus.specs.declared.Song.{Song}
-use Rattle.mus.specs.Song.{next, musOutcome}
+use Rattle.mus.specs.Song.{musOutcome}
 
 abbrev pub numberTests : ℕ → List Test
 numberTests n = test voiceNumber (ltb n 1 || ltb 3 n) ∷ []
@@ -23,7 +23,7 @@ abbrev pub songVoice : Song → ℕ → Voice
 songVoice s n = cond (eqb n 1) (s .voice1) (cond (eqb n 2) (s .voice2) (s .voice3))
 
 unfoldable pub voiceAsked : List ℕ → ℕ → Outcome Voice
-voiceAsked f n = guarded (firstOf (numberTests n)) (next (musOutcome f) (λ s. accepted (songVoice s n)))
+voiceAsked f n = guarded (firstOf (numberTests n)) (andThen (musOutcome f) (λ s. accepted (songVoice s n)))
 
 abbrev pub bytesOf : List ℕ → Voice → List ℕ
 bytesOf f v = take (v .length) (drop (v .offset) f)

@@ -1,9 +1,9 @@
 -- Laws of a voice that a caller names, and what acceptance has shown of it.
--- told-voice-once          no two answers are told alike
--- number-first, file-next  41 by the number, then what the file comes to
--- Asked, asked-accepted    any other answer is the voice of that number, of an accepted file
--- in-song, asked-in-song   each voice of a song, and the voice that is asked for, is as acceptance has
---                          reported it (InSong)
+-- voice-once                no two answers have the same outcome
+-- number-first, file-next   41 by the number, then what the file comes to
+-- Asked, asked-accepted     any other answer is the voice of that number, of an accepted file
+-- in-song, asked-in-song    each voice of a song, and the voice that is asked for, is as acceptance has
+--                           reported it (InSong)
 use Prim.Native.Nat.{ℕ, zero, suc, _≤_}
 use mathlib.Core.Path.{_≡_, refl, sym, ap, subst}
 use mathlib.Core.Bool.{true, false, _||_}
@@ -15,26 +15,26 @@ use Rattle.logic.specs.Cases.{cases}
 use Rattle.fields.specs.declared.Span.{Span}
 use Rattle.fields.specs.Parts.{partOf}
 use Rattle.refusals.specs.Numbers.Outcome.{accepted, refused}
-use Rattle.refusals.specs.Tests.{firstOf}
+use Rattle.refusals.specs.Tests.{firstOf, andThen}
 use Rattle.refusals.specs.Laws.{passed-none, two-ways, guarded-passed, refused-once}
 use Rattle.container.specs.Layout.{layoutOf}
 use Rattle.container.specs.Laws.{short-file, voice1-fits, voice2-fits, voice3-fits}
 use Rattle.bodies.specs.Voice.{pairs}
 use Rattle.mus.specs.declared.Voice.{Voice}
 use Rattle.mus.specs.declared.Song.{Song}
-use Rattle.mus.specs.declared.VoiceReading.{VoiceReading}
-use Rattle.mus.specs.declared.VoiceReading.the-variants.{Accepted, Refused}
-use Rattle.mus.specs.Voices.{toldVoice}
-use Rattle.mus.specs.Song.{next, musOutcome}
+use Rattle.mus.specs.declared.VoiceAnswer.{VoiceAnswer}
+use Rattle.mus.specs.declared.VoiceAnswer.the-variants.{Accepted, Refused}
+use Rattle.mus.specs.Voices.{outcomeOfVoice}
+use Rattle.mus.specs.Song.{musOutcome}
 use Rattle.mus.specs.Asked.{numberTests, songVoice, voiceAsked}
-use Rattle.mus.specs.Laws.{Passes, voiceOf, songOf, accepted-clear, next-given}
+use Rattle.mus.specs.Laws.{Passes, voiceReport, songOf, accepted-clear, then-given}
 use Rattle.mus.specs.Bounds.{InSong}
 
-pub told-voice-once : (a b : VoiceReading) → toldVoice a ≡ toldVoice b → a ≡ b
-told-voice-once (Accepted v) (Accepted w) e = let same : v ≡ w = cc in rw same
-told-voice-once (Accepted v) (Refused y) e = absurd (two-ways (sym e))
-told-voice-once (Refused x) (Accepted w) e = absurd (two-ways e)
-told-voice-once (Refused x) (Refused y) e = ap Refused (refused-once {X = Voice} x y e)
+pub voice-once : (a b : VoiceAnswer) → outcomeOfVoice a ≡ outcomeOfVoice b → a ≡ b
+voice-once (Accepted v) (Accepted w) e = let same : v ≡ w = cc in rw same
+voice-once (Accepted v) (Refused y) e = absurd (two-ways (sym e))
+voice-once (Refused x) (Accepted w) e = absurd (two-ways e)
+voice-once (Refused x) (Refused y) e = ap Refused (refused-once {X = Voice} x y e)
 
 pub record Asked (f : List ℕ) (n : ℕ) (v : Voice) : Type 0 where
   pub number : ltb n 1 || ltb 3 n ≡ false
@@ -48,15 +48,15 @@ module _ (f : List ℕ) (n : ℕ) where
   unfolding voiceAsked
   number-first e = rw e
 
-  pub file-next : ltb n 1 || ltb 3 n ≡ false → voiceAsked f n ≡ next (musOutcome f) (λ s. accepted (songVoice s n))
+  pub file-next : ltb n 1 || ltb 3 n ≡ false → voiceAsked f n ≡ andThen (musOutcome f) (λ s. accepted (songVoice s n))
   unfolding voiceAsked
   file-next e = rw e
 
   pub asked-accepted : (v : Voice) → voiceAsked f n ≡ accepted v → Asked f n v
   unfolding voiceAsked
   asked-accepted v e =
-      let passed = guarded-passed (firstOf (numberTests n)) (next (musOutcome f) (λ s. accepted (songVoice s n))) v e in
-      let given = next-given (musOutcome f) (λ s. accepted (songVoice s n)) v (passed .1) in
+      let passed = guarded-passed (firstOf (numberTests n)) (andThen (musOutcome f) (λ s. accepted (songVoice s n))) v e in
+      let given = then-given (musOutcome f) (λ s. accepted (songVoice s n)) v (passed .1) in
       record { number = passed-none (numberTests n) (passed .0) .0; song = given .value; file = given .was; voice = same (given .gives) }
     where
       same : {w : Voice} → accepted w ≡ accepted v → w ≡ v
@@ -69,7 +69,7 @@ take-own (suc n) [] = refl
 take-own (suc n) (x ∷ l) = ap (λ (r : List ℕ). x ∷ r) (take-own n l)
 
 -- a voice where its span lies
-span-in : (f : List ℕ) (s : Span) → Passes (pairs (partOf f s)) → length f ≤ 65536 → s .from ≤ 65536 → InSong f (voiceOf (s .from) (partOf f s))
+span-in : (f : List ℕ) (s : Span) → Passes (pairs (partOf f s)) → length f ≤ 65536 → s .from ≤ 65536 → InSong f (voiceReport (s .from) (partOf f s))
 span-in f s p short low =
     let own = take-own (s .len) (drop (s .from) f) in
     record { passes = rw own p; short = short; low = low; events = rw own; walked = rw own }

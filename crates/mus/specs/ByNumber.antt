@@ -1,7 +1,7 @@
 -- A file's head is right exactly where its refusal, if there is one, has a number above 24.
--- Above          a refusal's number is above another number
--- voice-above    a voice is refused with a number above 26
--- head-above     a file whose head is right is refused with a number above 24
+-- Above         a refusal's number is above another number
+-- voice-above   a voice is refused with a number above 26
+-- head-above    a file whose head is right is refused with a number above 24
 use Prim.Native.Nat.{ℕ, _+_, _<_}
 use mathlib.Core.Path.{_≡_, refl, subst}
 use mathlib.Core.List.{List, [], _∷_}
@@ -14,7 +14,7 @@ use Rattle.refusals.specs.Numbers.{Outcome}
 use Rattle.refusals.specs.Numbers.Outcome.{accepted, refused}
 use Rattle.refusals.specs.declared.Verdict.{Verdict}
 use Rattle.refusals.specs.declared.Verdict.the-variants.{Passed, Failed}
-use Rattle.refusals.specs.Tests.{Test, firstOf}
+use Rattle.refusals.specs.Tests.{Test, firstOf, andThen}
 use Rattle.container.specs.declared.Voices.{Voices}
 use Rattle.container.specs.declared.Layout.{Layout}
 use Rattle.container.specs.Head.{headOutcome}
@@ -29,7 +29,7 @@ use Rattle.structure.specs.Findings.{foundAt, firstAt, pairsTests, nestingsTest
 use Rattle.counts.specs.declared.Counted.the-variants.{Within}
 use Rattle.counts.specs.Limits.{limitTests, unlessOff, countOutcome}
 use Rattle.mus.specs.Voices.{orFound, limited, voiceOutcome}
-use Rattle.mus.specs.Song.{next, voiceIn, songWith, songIn, musOutcome}
+use Rattle.mus.specs.Song.{voiceIn, songWith, songIn, musOutcome}
 
 abbrev pub Above : {A : Type 0} → ℕ → Outcome A → Type 0
 Above k (accepted a) = Unit
@@ -82,9 +82,9 @@ voice-above offset bs =
     (limited-above offset (length bs) v))
 
 -- an outcome that comes after another
-next-above : {A B : Type 0} (o : Outcome A) (g : A → Outcome B) → Above 24 o → ((a : A) → Above 24 (g a)) → Above 24 (next o g)
-next-above (accepted a) g l h = h a
-next-above (refused n p) g l h = l
+then-above : {A B : Type 0} (o : Outcome A) (g : A → Outcome B) → Above 24 o → ((a : A) → Above 24 (g a)) → Above 24 (andThen o g)
+then-above (accepted a) g l h = h a
+then-above (refused n p) g l h = l
 
 lower : {A : Type 0} (o : Outcome A) → Above 26 o → Above 24 o
 lower (accepted a) l = tt
@@ -96,13 +96,13 @@ module _ (f : List ℕ) where
 
   song-above : (l : Layout) → Above 24 (songIn f l)
   song-above l =
-      next-above (voiceIn f (l .voice1)) (λ v1. next (voiceIn f (l .voice2)) (λ v2. next (voiceIn f (l .voice3)) (λ v3. accepted (songWith l v1 v2 v3)))) (span-above (l .voice1))
-      (λ v1. next-above (voiceIn f (l .voice2)) (λ v2. next (voiceIn f (l .voice3)) (λ v3. accepted (songWith l v1 v2 v3))) (span-above (l .voice2))
-      (λ v2. next-above (voiceIn f (l .voice3)) (λ v3. accepted (songWith l v1 v2 v3)) (span-above (l .voice3)) (λ v3. tt)))
+      then-above (voiceIn f (l .voice1)) (λ v1. andThen (voiceIn f (l .voice2)) (λ v2. andThen (voiceIn f (l .voice3)) (λ v3. accepted (songWith l v1 v2 v3)))) (span-above (l .voice1))
+      (λ v1. then-above (voiceIn f (l .voice2)) (λ v2. andThen (voiceIn f (l .voice3)) (λ v3. accepted (songWith l v1 v2 v3))) (span-above (l .voice2))
+      (λ v2. then-above (voiceIn f (l .voice3)) (λ v3. accepted (songWith l v1 v2 v3)) (span-above (l .voice3)) (λ v3. tt)))
 
   pub head-above : (v : Voices) → headOutcome f ≡ accepted v → Above 24 (musOutcome f)
   unfolding musOutcome
-  head-above v e = next-above (containerOutcome f) (λ l. songIn f l) (go (containerOutcome f) refl) song-above
+  head-above v e = then-above (containerOutcome f) (λ l. songIn f l) (go (containerOutcome f) refl) song-above
     where
       go : (o : Outcome Layout) → containerOutcome f ≡ o → Above 24 o
       go (accepted l) q = tt

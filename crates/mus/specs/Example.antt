@@ -11,7 +11,7 @@ use Rattle.container.specs.Head.{headOf}
 use Rattle.container.specs.Text.{lineBytes, lineOf, textOf}
 use Rattle.container.specs.Layout.{layoutOf, containerTests, containerOutcome}
 use Rattle.bodies.specs.Voice.{pairs}
-use Rattle.bodies.specs.Bodies.{inner, outer, joined, bodies, bodyOf}
+use Rattle.bodies.specs.Bodies.{inner, outer, withPair, bodies, bodyOf}
 use Rattle.bodies.specs.Playing.{interpret, phrases, copies, played, eventsOf, walkedOf, depthOf}
 use Rattle.structure.specs.Findings.{firstAt, pairsTests, nestingsTests, pairsFinding, structureFinding}
 use Rattle.mus.specs.Voices.{voiceOutcome}
@@ -33,5 +33,5 @@ pub example-heard : musOutcome example
       line4 = record { from = 25; len = 0 };
       line5 = record { from = 26; len = 0 };
     })
-unfolding musOutcome voiceOutcome le16 headOf lineBytes lineOf textOf layoutOf containerTests containerOutcome pairs inner outer joined bodies bodyOf interpret phrases copies played eventsOf walkedOf depthOf firstAt pairsTests nestingsTests pairsFinding structureFinding
+unfolding musOutcome voiceOutcome le16 headOf lineBytes lineOf textOf layoutOf containerTests containerOutcome pairs inner outer withPair bodies bodyOf interpret phrases copies played eventsOf walkedOf depthOf firstAt pairsTests nestingsTests pairsFinding structureFinding
 example-heard = refl

@@ -1,17 +1,17 @@
 -- A MUS file is accepted exactly when none of 21 to 26 applies to it and none of 27 to 33 to any of its
 -- voices. Laws of acceptance and of the text.
--- Passes                          none of 27 to 33 applies to a voice
--- voiceOf                         what is reported of a voice
--- passes-voice, voice-passes      a voice is accepted exactly when none applies to it
--- Clear                           none of 21 to 33 applies to a file and its voices
--- songOf                          what is reported of a file
--- Given, next-given               where what comes after a part is accepted, so is the part
--- clear-accepted, accepted-clear  a file is accepted exactly when none applies
--- told-once                       no two answers are told alike
--- head-refused                    21 to 24 come first
--- long-refused, cut-off           a file of more than 65,536 bytes is 22, and so is what is left of it that
---                                 is as long
--- line-text                       a line of an accepted file is the paper's line
+-- Passes                       none of 27 to 33 applies to a voice
+-- voiceReport                  what is reported of a voice
+-- passes-voice, voice-passes   a voice is accepted exactly when none applies to it
+-- Clear                        none of 21 to 33 applies to a file and its voices
+-- songOf                       what is reported of a file
+-- Given, then-given            where what comes after a part is accepted, so is the part
+-- clear-accepted, accepted-clear   a file is accepted exactly when none applies
+-- song-once                    no two answers have the same outcome
+-- head-refused                 21 to 24 come first
+-- long-refused, cut-off        a file of more than 65,536 bytes is 22, and so is what is left of it that is
+--                              as long
+-- line-text                    a line of an accepted file is the paper's line
 use Prim.Native.Nat.{ℕ, _<_}
 use mathlib.Core.Path.{_≡_, refl, sym, ap, _∙_, subst}
 use mathlib.Core.List.{List}
@@ -21,7 +21,7 @@ use Rattle.fields.specs.Parts.{partOf}
 use Rattle.meaning.specs.declared.Meaning.{Meaning}
 use Rattle.refusals.specs.Numbers.{Outcome}
 use Rattle.refusals.specs.Numbers.Outcome.{accepted, refused}
-use Rattle.refusals.specs.Tests.{None, firstOf}
+use Rattle.refusals.specs.Tests.{None, firstOf, andThen}
 use Rattle.refusals.specs.Laws.{passed-none, none-passed, two-ways, refused-once}
 use Rattle.refusals.specs.declared.Verdict.{Verdict}
 use Rattle.refusals.specs.declared.Verdict.the-variants.{Passed, Failed}
@@ -45,24 +45,24 @@ use Rattle.mus.specs.declared.Song.{Song}
 use Rattle.mus.specs.declared.Reading.{Reading}
 use Rattle.mus.specs.declared.Reading.the-variants.{Accepted, Refused}
 use Rattle.mus.specs.Voices.{orFound, limited, voiceOutcome}
-use Rattle.mus.specs.Song.{next, voiceIn, songWith, songIn, musOutcome, told}
+use Rattle.mus.specs.Song.{voiceIn, songWith, songIn, musOutcome, outcomeOfSong}
 use Rattle.mus.specs.Text.{textLine}
 
-pub told-once : (a b : Reading) → told a ≡ told b → a ≡ b
-told-once (Accepted s) (Accepted t) e = let same : s ≡ t = cc in rw same
-told-once (Accepted s) (Refused y) e = absurd (two-ways (sym e))
-told-once (Refused x) (Accepted t) e = absurd (two-ways e)
-told-once (Refused x) (Refused y) e = ap Refused (refused-once {X = Song} x y e)
+pub song-once : (a b : Reading) → outcomeOfSong a ≡ outcomeOfSong b → a ≡ b
+song-once (Accepted s) (Accepted t) e = let same : s ≡ t = cc in rw same
+song-once (Accepted s) (Refused y) e = absurd (two-ways (sym e))
+song-once (Refused x) (Accepted t) e = absurd (two-ways e)
+song-once (Refused x) (Refused y) e = ap Refused (refused-once {X = Song} x y e)
 
 pub record Passes (v : List (Outcome Meaning)) : Type 0 where
   pub pairs : AllNone (pairsTests v)
   pub structure : AllNone (nestingsTests start v)
   pub limits : None (limitTests v)
 
-abbrev pub voiceOf : ℕ → List ℕ → Voice
-voiceOf offset bs = record { offset = offset; length = length bs; events = eventsOf (pairs bs); walked = walkedOf (pairs bs) }
+abbrev pub voiceReport : ℕ → List ℕ → Voice
+voiceReport offset bs = record { offset = offset; length = length bs; events = eventsOf (pairs bs); walked = walkedOf (pairs bs) }
 
-pub passes-voice : (offset : ℕ) (bs : List ℕ) → Passes (pairs bs) → voiceOutcome offset bs ≡ accepted (voiceOf offset bs)
+pub passes-voice : (offset : ℕ) (bs : List ℕ) → Passes (pairs bs) → voiceOutcome offset bs ≡ accepted (voiceReport offset bs)
 unfolding voiceOutcome pairsFinding structureFinding
 passes-voice offset bs p =
     rw (none-clear 0 (pairsTests (pairs bs)) (p .pairs), none-clear 0 (nestingsTests start (pairs bs)) (p .structure))
@@ -77,7 +77,7 @@ limited-none : (offset len : ℕ) (x : Verdict) (events walked : ℕ) (v : Voice
 limited-none offset len Passed events walked v e = (refl, cc)
 limited-none offset len (Failed n) events walked v e = absurd (two-ways e)
 
-pub voice-passes : (offset : ℕ) (bs : List ℕ) (v : Voice) → voiceOutcome offset bs ≡ accepted v → Passes (pairs bs) × (voiceOf offset bs ≡ v)
+pub voice-passes : (offset : ℕ) (bs : List ℕ) (v : Voice) → voiceOutcome offset bs ≡ accepted v → Passes (pairs bs) × (voiceReport offset bs ≡ v)
 unfolding voiceOutcome pairsFinding structureFinding
 voice-passes offset bs v e =
     let one = found-none offset (pairsFinding (pairs bs)) _ v e in
@@ -98,7 +98,7 @@ pub record Clear (f : List ℕ) : Type 0 where
   pub voice3 : Passes (pairs (partOf f (layoutOf f .voice3)))
 
 abbrev voiceAt : List ℕ → Span → Voice
-voiceAt f s = voiceOf (s .from) (partOf f s)
+voiceAt f s = voiceReport (s .from) (partOf f s)
 
 unfoldable pub songOf : List ℕ → Song
 songOf f = songWith (layoutOf f) (voiceAt f (layoutOf f .voice1)) (voiceAt f (layoutOf f .voice2)) (voiceAt f (layoutOf f .voice3))
@@ -114,19 +114,19 @@ pub record Given {A B : Type 0} (o : Outcome A) (g : A → Outcome B) (b : B) : 
   pub was : o ≡ accepted value
   pub gives : g value ≡ accepted b
 
-pub next-given : {A B : Type 0} (o : Outcome A) (g : A → Outcome B) (b : B) → next o g ≡ accepted b → Given o g b
-next-given (accepted x) g b e = record { value = x; was = refl; gives = e }
-next-given (refused n p) g b e = absurd (two-ways e)
+pub then-given : {A B : Type 0} (o : Outcome A) (g : A → Outcome B) (b : B) → andThen o g ≡ accepted b → Given o g b
+then-given (accepted x) g b e = record { value = x; was = refl; gives = e }
+then-given (refused n p) g b e = absurd (two-ways e)
 
 pub accepted-clear : (f : List ℕ) (s : Song) → musOutcome f ≡ accepted s → Clear f × (songOf f ≡ s)
 unfolding musOutcome songOf
 accepted-clear f s e =
-    let right = next-given (containerOutcome f) (λ l. songIn f l) s e in
+    let right = then-given (containerOutcome f) (λ l. songIn f l) s e in
     let l = right .value in
     let lies : layoutOf f ≡ l = layout-of f l (right .was) in
-    let one = next-given (voiceIn f (l .voice1)) (λ v1. next (voiceIn f (l .voice2)) (λ v2. next (voiceIn f (l .voice3)) (λ v3. accepted (songWith l v1 v2 v3)))) s (right .gives) in
-    let two = next-given (voiceIn f (l .voice2)) (λ v2. next (voiceIn f (l .voice3)) (λ v3. accepted (songWith l (one .value) v2 v3))) s (one .gives) in
-    let three = next-given (voiceIn f (l .voice3)) (λ v3. accepted (songWith l (one .value) (two .value) v3)) s (two .gives) in
+    let one = then-given (voiceIn f (l .voice1)) (λ v1. andThen (voiceIn f (l .voice2)) (λ v2. andThen (voiceIn f (l .voice3)) (λ v3. accepted (songWith l v1 v2 v3)))) s (right .gives) in
+    let two = then-given (voiceIn f (l .voice2)) (λ v2. andThen (voiceIn f (l .voice3)) (λ v3. accepted (songWith l (one .value) v2 v3))) s (one .gives) in
+    let three = then-given (voiceIn f (l .voice3)) (λ v3. accepted (songWith l (one .value) (two .value) v3)) s (two .gives) in
     let first = voice-passes (l .voice1 .from) (partOf f (l .voice1)) (one .value) (one .was) in
     let second = voice-passes (l .voice2 .from) (partOf f (l .voice2)) (two .value) (two .was) in
     let third = voice-passes (l .voice3 .from) (partOf f (l .voice3)) (three .value) (three .was) in

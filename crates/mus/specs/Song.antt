@@ -1,16 +1,16 @@
 -- Document 01, 'MUS container': 'Order: 21, 22, 23, 24, 25, 26. Then voice 1, 2, 3'; and what an accepted
 -- file says of itself.
--- next          what comes after a part that is accepted; a refusal stands
--- voiceIn       the voice at a span of a file
--- songWith      what a right container and its three voices say together
--- songIn        voice 1, 2, 3 of a file whose container is right
--- musOutcome    a file accepted or refused
--- told          what an answer says
+-- voiceIn         the voice at a span of a file
+-- songWith        what a right container and its three voices say together
+-- songIn          voice 1, 2, 3 of a file whose container is right
+-- musOutcome      a file accepted or refused
+-- outcomeOfSong   what an answer says
 use Prim.Native.Nat.{ℕ}
 use mathlib.Core.List.{List}
 use Rattle.fields.specs.Parts.{partOf}
 use Rattle.refusals.specs.Numbers.{Outcome}
 use Rattle.refusals.specs.Numbers.Outcome.{accepted, refused}
+use Rattle.refusals.specs.Tests.{andThen}
 use Rattle.fields.specs.declared.Span.{Span}
 use Rattle.container.specs.declared.Layout.{Layout}
 use Rattle.container.specs.Layout.{containerOutcome}
@@ -19,10 +19,6 @@ use Rattle.mus.specs.declared.Song.{Song}
 use Rattle.mus.specs.declared.Reading.{Reading}
 use Rattle.mus.specs.declared.Reading.the-variants.{Accepted, Refused}
 use Rattle.mus.specs.Voices.{voiceOutcome}
-
-abbrev pub next : {A B : Type 0} → Outcome A → (A → Outcome B) → Outcome B
-next (accepted a) f = f a
-next (refused number place) f = refused number place
 
 abbrev pub voiceIn : List ℕ → Span → Outcome Voice
 voiceIn f s = voiceOutcome (s .from) (partOf f s)
@@ -43,11 +39,11 @@ songWith l v1 v2 v3 =
 
 abbrev pub songIn : List ℕ → Layout → Outcome Song
 songIn f l =
-    next (voiceIn f (l .voice1)) (λ v1. next (voiceIn f (l .voice2)) (λ v2. next (voiceIn f (l .voice3)) (λ v3. accepted (songWith l v1 v2 v3))))
+    andThen (voiceIn f (l .voice1)) (λ v1. andThen (voiceIn f (l .voice2)) (λ v2. andThen (voiceIn f (l .voice3)) (λ v3. accepted (songWith l v1 v2 v3))))
 
 unfoldable pub musOutcome : List ℕ → Outcome Song
-musOutcome f = next (containerOutcome f) (λ l. songIn f l)
+musOutcome f = andThen (containerOutcome f) (λ l. songIn f l)
 
-abbrev pub told : Reading → Outcome Song
-told (Accepted s) = accepted s
-told (Refused x) = refused (x .number) (x .place)
+abbrev pub outcomeOfSong : Reading → Outcome Song
+outcomeOfSong (Accepted s) = accepted s
+outcomeOfSong (Refused x) = refused (x .number) (x .place)

@@ -1,10 +1,10 @@
 -- Document 01, 'MUS container': 'within a voice first 27 to 29 pair by pair (at one pair the lower number),
 -- then 30 and 31 pair by pair, then 32, then 33. The place is the offending pair's file offset; for 32 and 33
 -- the voice's first pair.' A voice is its own bytes and the file offset of its first pair, and nothing else.
--- orFound        a refusal at a pair, with the pair's file offset, or what comes later
--- limited        32 or 33 at the voice's first pair, or 'each voice's events and pairs walked'
--- voiceOutcome   a voice accepted or refused
--- toldVoice      what a voice's answer says
+-- orFound          a refusal at a pair, with the pair's file offset, or what comes later
+-- limited          32 or 33 at the voice's first pair, or 'each voice's events and pairs walked'
+-- voiceOutcome     a voice accepted or refused
+-- outcomeOfVoice   what a voice's answer says
 use Prim.Native.Nat.{ℕ, _+_, _*_}
 use mathlib.Core.List.{List}
 use lib.ListN.{length}
@@ -18,8 +18,8 @@ use Rattle.counts.specs.declared.Counted.{Counted}
 use Rattle.counts.specs.declared.Counted.the-variants.{Within, Off}
 use Rattle.counts.specs.Limits.{countOutcome}
 use Rattle.mus.specs.declared.Voice.{Voice}
-use Rattle.mus.specs.declared.VoiceReading.{VoiceReading}
-use Rattle.mus.specs.declared.VoiceReading.the-variants.{Accepted, Refused}
+use Rattle.mus.specs.declared.VoiceAnswer.{VoiceAnswer}
+use Rattle.mus.specs.declared.VoiceAnswer.the-variants.{Accepted, Refused}
 
 abbrev pub orFound : {A : Type 0} → ℕ → Finding → Outcome A → Outcome A
 orFound offset Clear later = later
@@ -33,6 +33,6 @@ unfoldable pub voiceOutcome : ℕ → List ℕ → Outcome Voice
 voiceOutcome offset bs =
     orFound offset (pairsFinding (pairs bs)) (orFound offset (structureFinding (pairs bs)) (limited offset (length bs) (countOutcome (pairs bs))))
 
-abbrev pub toldVoice : VoiceReading → Outcome Voice
-toldVoice (Accepted v) = accepted v
-toldVoice (Refused x) = refused (x .number) (x .place)
+abbrev pub outcomeOfVoice : VoiceAnswer → Outcome Voice
+outcomeOfVoice (Accepted v) = accepted v
+outcomeOfVoice (Refused x) = refused (x .number) (x .place)

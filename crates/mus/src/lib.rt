@@ -1,8 +1,8 @@
 // Sidplayer MUS files in PRG form: accepted or refused, their voices counted without being played, their text
 // shown. Every call answers for every file and every number; none has a requires.
 ghost use mathlib.Core.Path.{_≡_};
-ghost use Rattle.mus.specs.Song.{musOutcome, told};
-ghost use Rattle.mus.specs.Voices.{toldVoice};
+ghost use Rattle.mus.specs.Song.{musOutcome, outcomeOfSong};
+ghost use Rattle.mus.specs.Voices.{outcomeOfVoice};
 ghost use Rattle.mus.specs.Asked.{voiceAsked};
 ghost use Rattle.mus.specs.Text.{textLine};
 use container::Container;
@@ -40,14 +40,14 @@ pub enum Reading {
 }
 
 // The answer to a voice.
-pub enum VoiceReading {
+pub enum VoiceAnswer {
     Accepted(Voice),
     Refused(Refusal),
 }
 
 // Accepts a file, or gives the first refusal that applies: 21 to 26, then voice 1, 2 and 3, each 27 to 33.
 pub fn accept(file: &[u8]) -> Reading
-    ensures { λ r. ⌜ told r ≡ musOutcome (now (file .entry)) ⌝ }
+    ensures { λ r. ⌜ outcomeOfSong r ≡ musOutcome (now (file .entry)) ⌝ }
 {
     match container::read_container(file) {
         Container::Refused(x) => Reading::Refused(x),
@@ -57,15 +57,15 @@ pub fn accept(file: &[u8]) -> Reading
 
 // A voice of an accepted file by its number, 1 to 3. Refused with 41 for any other number, else with the
 // file's own refusal.
-pub fn read_voice(file: &[u8], number: u32) -> VoiceReading
-    ensures { λ r. ⌜ toldVoice r ≡ voiceAsked (now (file .entry)) number ⌝ }
+pub fn read_voice(file: &[u8], number: u32) -> VoiceAnswer
+    ensures { λ r. ⌜ outcomeOfVoice r ≡ voiceAsked (now (file .entry)) number ⌝ }
 {
     if (number < 1) | (3 < number) {
-        return VoiceReading::Refused(Refusal::unplaced(refusals::VOICE_NUMBER));
+        return VoiceAnswer::Refused(Refusal::unplaced(refusals::VOICE_NUMBER));
     }
     match accept(file) {
-        Reading::Refused(x) => VoiceReading::Refused(x),
-        Reading::Accepted(song) => VoiceReading::Accepted(voices::voice_of(song, number)),
+        Reading::Refused(x) => VoiceAnswer::Refused(x),
+        Reading::Accepted(song) => VoiceAnswer::Accepted(voices::voice_of(song, number)),
     }
 }
 

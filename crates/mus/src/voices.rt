@@ -6,15 +6,15 @@ ghost use lib.ListN.{length};
 ghost use Rattle.bodies.specs.Voice.{pairs};
 ghost use Rattle.bodies.specs.Order as order;
 ghost use Rattle.counts.specs.Limits.{countOutcome};
-ghost use Rattle.mus.specs.Voices.{limited, voiceOutcome, toldVoice};
-ghost use Rattle.mus.specs.Song.{voiceIn, songWith, songIn, told};
+ghost use Rattle.mus.specs.Voices.{limited, voiceOutcome, outcomeOfVoice};
+ghost use Rattle.mus.specs.Song.{voiceIn, songWith, songIn, outcomeOfSong};
 ghost use Rattle.mus.specs.Bounds.{InFile};
 ghost use Rattle.mus.specs.Asked.{songVoice};
 ghost use Rattle.mus.specs.Text.{lineSpan};
 use crate::Reading;
 use crate::Song;
 use crate::Voice;
-use crate::VoiceReading;
+use crate::VoiceAnswer;
 use container::Layout;
 use counts::Counted;
 use fields::Span;
@@ -22,11 +22,11 @@ use refusals::Refusal;
 use structure::Finding;
 
 // The refusal of a pair by its number in the voice, with its file offset.
-fn refused_at(number: u32, offset: usize, i: usize) -> VoiceReading
+fn refused_at(number: u32, offset: usize, i: usize) -> VoiceAnswer
     requires { ⌜ (offset ≤ 65536) × (i ≤ 65536) ⌝ }
-    ensures { λ r. ⌜ toldVoice r ≡ refused number (offset + 2 * i) ⌝ }
+    ensures { λ r. ⌜ outcomeOfVoice r ≡ refused number (offset + 2 * i) ⌝ }
 {
-    VoiceReading::Refused(Refusal {
+    VoiceAnswer::Refused(Refusal {
         number,
         place: offset + 2 * i,
     })
@@ -34,18 +34,18 @@ fn refused_at(number: u32, offset: usize, i: usize) -> VoiceReading
 
 // 32 and 33 with the place of the voice's first pair, of a voice that 27 to 31 do not refuse; else the voice
 // with its counts.
-fn counted(voice: &[u8], offset: usize) -> VoiceReading
+fn counted(voice: &[u8], offset: usize) -> VoiceAnswer
     requires { ⌜ (length (now voice) ≤ 65536) × order.Sound (pairs (now voice)) ⌝ }
-    ensures { λ r. ⌜ toldVoice r ≡ limited offset (length (now (voice .entry))) (countOutcome (pairs (now (voice .entry)))) ⌝ }
+    ensures { λ r. ⌜ outcomeOfVoice r ≡ limited offset (length (now (voice .entry))) (countOutcome (pairs (now (voice .entry)))) ⌝ }
 {
     match counts::count_voice(voice) {
-        Counted::Within(events, walked) => VoiceReading::Accepted(Voice {
+        Counted::Within(events, walked) => VoiceAnswer::Accepted(Voice {
             offset,
             length: voice.len(),
             events,
             walked,
         }),
-        Counted::Off(number) => VoiceReading::Refused(Refusal {
+        Counted::Off(number) => VoiceAnswer::Refused(Refusal {
             number,
             place: offset,
         }),
@@ -53,9 +53,9 @@ fn counted(voice: &[u8], offset: usize) -> VoiceReading
 }
 
 // A voice by its own bytes and the file offset of its first pair: 27 to 29, then 30 and 31, then 32, then 33.
-fn accept_voice(voice: &[u8], offset: usize) -> VoiceReading
+fn accept_voice(voice: &[u8], offset: usize) -> VoiceAnswer
     requires { ⌜ (length (now voice) ≤ 65536) × (offset ≤ 65536) ⌝ }
-    ensures { λ r. ⌜ toldVoice r ≡ voiceOutcome offset (now (voice .entry)) ⌝ }
+    ensures { λ r. ⌜ outcomeOfVoice r ≡ voiceOutcome offset (now (voice .entry)) ⌝ }
 {
     match structure::pairs_finding(voice) {
         Finding::At(number, i) => refused_at(number, offset, i),
@@ -66,9 +66,9 @@ fn accept_voice(voice: &[u8], offset: usize) -> VoiceReading
     }
 }
 
-fn accept_span(file: &[u8], span: Span) -> VoiceReading
+fn accept_span(file: &[u8], span: Span) -> VoiceAnswer
     requires { ⌜ (length (now file) ≤ 65536) × (span .from ≤ 65536) ⌝ }
-    ensures { λ r. ⌜ toldVoice r ≡ voiceIn (now (file .entry)) span ⌝ }
+    ensures { λ r. ⌜ outcomeOfVoice r ≡ voiceIn (now (file .entry)) span ⌝ }
 {
     let from = span.from;
     let len = span.len;
@@ -78,15 +78,15 @@ fn accept_span(file: &[u8], span: Span) -> VoiceReading
 // internal: voice 1, 2, 3.
 pub fn accept_voices(file: &[u8], l: Layout) -> Reading
     requires { ⌜ InFile (now file) l ⌝ }
-    ensures { λ r. ⌜ told r ≡ songIn (now (file .entry)) l ⌝ }
+    ensures { λ r. ⌜ outcomeOfSong r ≡ songIn (now (file .entry)) l ⌝ }
 {
     match accept_span(file, l.voice1) {
-        VoiceReading::Refused(x) => Reading::Refused(x),
-        VoiceReading::Accepted(v1) => match accept_span(file, l.voice2) {
-            VoiceReading::Refused(x) => Reading::Refused(x),
-            VoiceReading::Accepted(v2) => match accept_span(file, l.voice3) {
-                VoiceReading::Refused(x) => Reading::Refused(x),
-                VoiceReading::Accepted(v3) => Reading::Accepted(song_of(l, v1, v2, v3)),
+        VoiceAnswer::Refused(x) => Reading::Refused(x),
+        VoiceAnswer::Accepted(v1) => match accept_span(file, l.voice2) {
+            VoiceAnswer::Refused(x) => Reading::Refused(x),
+            VoiceAnswer::Accepted(v2) => match accept_span(file, l.voice3) {
+                VoiceAnswer::Refused(x) => Reading::Refused(x),
+                VoiceAnswer::Accepted(v3) => Reading::Accepted(song_of(l, v1, v2, v3)),
             },
         },
     }

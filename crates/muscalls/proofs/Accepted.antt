@@ -12,7 +12,7 @@ use Rattle.container.specs.Layout.{layoutOf}
 use Rattle.container.specs.Laws.{short-file, voice1-fits, voice2-fits, voice3-fits}
 use Rattle.mus.specs.declared.Song.{Song}
 use Rattle.mus.specs.Song.{musOutcome}
-use Rattle.mus.specs.Laws.{voiceOf, songOf, accepted-clear}
+use Rattle.mus.specs.Laws.{voiceReport, songOf, accepted-clear}
 use Rattle.muscalls.specs.Bounds.{NarrowVoice, NarrowSong}
 
 pub narrow-song : (f : List ℕ) (s : Song) → musOutcome f ≡ accepted s → NarrowSong s
@@ -28,6 +28,6 @@ narrow-song f s e =
       voice3 = span-narrow (layoutOf f .voice3) short (omega (arith, voice3-fits f k .2));
     }
   where
-    span-narrow : (p : Span) → length f ≤ 65536 → p .from ≤ 65536 → NarrowVoice (voiceOf (p .from) (partOf f p))
+    span-narrow : (p : Span) → length f ≤ 65536 → p .from ≤ 65536 → NarrowVoice (voiceReport (p .from) (partOf f p))
     span-narrow p short low =
         record { offset = low; length = omega (arith, length-take (p .len) (drop (p .from) f), length-drop (p .from) f) }

@@ -1,5 +1,5 @@
--- Each call of a MUS file tells a value from a refusal (`Told`).
--- accept-told, list-told   so for tt_mus_accept and tt_mus_list
+-- Each call of a MUS file tells a value from a refusal (`Apart`).
+-- accept-apart, list-apart   so for tt_mus_accept and tt_mus_list
 use Prim.Native.Nat.{ℕ, _<_}
 use mathlib.Core.Path.{_≡_, sym, _∙_, ap}
 use mathlib.Core.List.{List}
@@ -17,7 +17,7 @@ use Rattle.mus.specs.Asked.{songVoice, bytesOf}
 use Rattle.mus.specs.AskedLaws.{in-song}
 use Rattle.events.specs.Listing.{playedIn, countOf, Listing, listing}
 use Rattle.events.specs.Laws.{accepted-window}
-use Rattle.answers.specs.Told.{Told, low-told}
+use Rattle.answers.specs.Apart.{Apart, low-apart}
 use Rattle.muscalls.specs.Lists.{songNumbers}
 use Rattle.muscalls.proofs.Places.{mus-low, list-low}
 
@@ -25,13 +25,13 @@ same : {A : Type 0} {a b : A} → _≡_ {A = Outcome A} (accepted a) (accepted b
 same e = cc
 
 module _ (f : List ℕ) where
-  pub accept-told : Told (λ s. length (songNumbers s)) (musOutcome f)
-  accept-told = low-told (λ s. length (songNumbers s)) (musOutcome f) (λ s e. lit< tt) (mus-low f)
+  pub accept-apart : Apart (λ s. length (songNumbers s)) (musOutcome f)
+  accept-apart = low-apart (λ s. length (songNumbers s)) (musOutcome f) (λ s e. lit< tt) (mus-low f)
 
   -- a voice has at most 1,048,576 events
-  pub list-told : (voice first : ℕ) (os js : List ℕ) → Told (λ count. count) (listing f voice first os js .answer)
+  pub list-apart : (voice first : ℕ) (os js : List ℕ) → Apart (λ count. count) (listing f voice first os js .answer)
   unfolding playedIn eventsOf
-  list-told voice first os js = low-told (λ count. count) (listing f voice first os js .answer) few (list-low f voice first os js)
+  list-apart voice first os js = low-apart (λ count. count) (listing f voice first os js .answer) few (list-low f voice first os js)
     where
       few : (count : ℕ) → listing f voice first os js .answer ≡ accepted count → count < 0x100000000
       few count e =

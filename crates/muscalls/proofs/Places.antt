@@ -11,7 +11,7 @@ use Rattle.refusals.specs.Numbers.{Outcome}
 use Rattle.refusals.specs.Numbers.Outcome.{accepted, refused}
 use Rattle.refusals.specs.declared.Verdict.{Verdict}
 use Rattle.refusals.specs.declared.Verdict.the-variants.{Passed, Failed}
-use Rattle.refusals.specs.Tests.{firstOf, guarded}
+use Rattle.refusals.specs.Tests.{firstOf, guarded, andThen}
 use Rattle.refusals.specs.Laws.{first-above}
 use Rattle.meaning.specs.declared.Meaning.{Meaning}
 use Rattle.container.specs.declared.Layout.{Layout}
@@ -28,18 +28,18 @@ use Rattle.counts.specs.declared.Counted.the-variants.{Within}
 use Rattle.counts.specs.Limits.{limitTests, unlessOff, countOutcome}
 use Rattle.mus.specs.declared.Voice.{Voice}
 use Rattle.mus.specs.Voices.{orFound, limited, voiceOutcome}
-use Rattle.mus.specs.Song.{next, voiceIn, songWith, songIn, musOutcome}
+use Rattle.mus.specs.Song.{voiceIn, songWith, songIn, musOutcome}
 use Rattle.mus.specs.Asked.{numberTests, songVoice, voiceAsked}
 use Rattle.mus.specs.Bounds.{InFile}
 use Rattle.mus.proofs.Outcomes.{in-file}
 use Rattle.events.specs.Listing.{callerTests, filledBy, listing}
-use Rattle.answers.specs.Told.{Low, tests-low}
+use Rattle.answers.specs.Apart.{Low, tests-low}
 use Rattle.muscalls.proofs.Numbers.{found-above}
 
 -- an outcome that comes after another
-next-low : {A B : Type 0} (o : Outcome A) (g : A → Outcome B) → Low o → ((a : A) → o ≡ accepted a → Low (g a)) → Low (next o g)
-next-low (accepted a) g l h = h a refl
-next-low (refused n p) g l h = l
+then-low : {A B : Type 0} (o : Outcome A) (g : A → Outcome B) → Low o → ((a : A) → o ≡ accepted a → Low (g a)) → Low (andThen o g)
+then-low (accepted a) g l h = h a refl
+then-low (refused n p) g l h = l
 
 found-low : {A : Type 0} (offset : ℕ) (x : Finding) (later : Outcome A) → ((n i : ℕ) → x ≡ At n i → (0 < n) × (offset + 2 * i ≤ 65536)) → Low later → Low (orFound offset x later)
 found-low offset Clear later h l = l
@@ -66,18 +66,18 @@ voice-low f s short low =
 
 pub mus-low : (f : List ℕ) → Low (musOutcome f)
 unfolding musOutcome containerOutcome
-mus-low f = next-low (containerOutcome f) (λ l. songIn f l) (tests-low (containerTests f) (accepted (layoutOf f)) tt) (λ l e. song-low l (in-file f l e))
+mus-low f = then-low (containerOutcome f) (λ l. songIn f l) (tests-low (containerTests f) (accepted (layoutOf f)) tt) (λ l e. song-low l (in-file f l e))
   where
     song-low : (l : Layout) → InFile f l → Low (songIn f l)
     song-low l i =
-        next-low (voiceIn f (l .voice1)) (λ v1. next (voiceIn f (l .voice2)) (λ v2. next (voiceIn f (l .voice3)) (λ v3. accepted (songWith l v1 v2 v3)))) (voice-low f (l .voice1) (i .short) (i .voice1))
-        (λ v1 e1. next-low (voiceIn f (l .voice2)) (λ v2. next (voiceIn f (l .voice3)) (λ v3. accepted (songWith l v1 v2 v3))) (voice-low f (l .voice2) (i .short) (i .voice2))
-        (λ v2 e2. next-low (voiceIn f (l .voice3)) (λ v3. accepted (songWith l v1 v2 v3)) (voice-low f (l .voice3) (i .short) (i .voice3)) (λ v3 e3. tt)))
+        then-low (voiceIn f (l .voice1)) (λ v1. andThen (voiceIn f (l .voice2)) (λ v2. andThen (voiceIn f (l .voice3)) (λ v3. accepted (songWith l v1 v2 v3)))) (voice-low f (l .voice1) (i .short) (i .voice1))
+        (λ v1 e1. then-low (voiceIn f (l .voice2)) (λ v2. andThen (voiceIn f (l .voice3)) (λ v3. accepted (songWith l v1 v2 v3))) (voice-low f (l .voice2) (i .short) (i .voice2))
+        (λ v2 e2. then-low (voiceIn f (l .voice3)) (λ v3. accepted (songWith l v1 v2 v3)) (voice-low f (l .voice3) (i .short) (i .voice3)) (λ v3 e3. tt)))
 
 asked-low : (f : List ℕ) (voice : ℕ) → Low (voiceAsked f voice)
 unfolding voiceAsked
 asked-low f voice =
-    tests-low (numberTests voice) (next (musOutcome f) (λ s. accepted (songVoice s voice))) (next-low (musOutcome f) (λ s. accepted (songVoice s voice)) (mus-low f) (λ s e. tt))
+    tests-low (numberTests voice) (andThen (musOutcome f) (λ s. accepted (songVoice s voice))) (then-low (musOutcome f) (λ s. accepted (songVoice s voice)) (mus-low f) (λ s e. tt))
 
 pub list-low : (f : List ℕ) (voice first : ℕ) (os js : List ℕ) → Low (listing f voice first os js .answer)
 unfolding listing

@@ -4,7 +4,7 @@ ghost use mathlib.Core.Path.{_≡_};
 ghost use lib.ListN.{length};
 ghost use Rattle.mus.specs.Song.{musOutcome};
 ghost use Rattle.events.specs.Listing.{listing};
-ghost use Rattle.answers.specs.Answers.{packed, cellsAfter};
+ghost use Rattle.answers.specs.Answers.{packed, listAfter};
 ghost use Rattle.muscalls.specs.Lists.{songNumbers};
 use events::Listed;
 
@@ -13,7 +13,7 @@ mod songs;
 // internal: the body of tt_mus_accept.
 pub fn accept(file: &[u8], out: &mut [u32]) -> u64
     ensures answer { λ r. ⌜ r ≡ packed (λ s. length (songNumbers s)) (musOutcome (now (file .entry))) ⌝ }
-    ensures cells { λ _. ⌜ now (out .exit) ≡ cellsAfter songNumbers (musOutcome (now (file .entry))) (now (out .entry)) ⌝ }
+    ensures cells { λ _. ⌜ now (out .exit) ≡ listAfter songNumbers (musOutcome (now (file .entry))) (now (out .entry)) ⌝ }
 {
     match mus::accept(file) {
         mus::Reading::Refused(x) => answers::refused(x),

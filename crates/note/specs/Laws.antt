@@ -1,9 +1,9 @@
 -- Laws of a note's two bytes.
--- shape-low, accidental-low, letter-low   the bounds of what the bytes are made of
--- Low, length-low      an untied note's first byte is at most 188, so the tie's 64 fits
+-- shape-low, accidental-low, letter-number-low   the bounds of what the bytes are made of
+-- Low, length-low          an untied note's first byte is at most 188, so the tie's 64 fits
 -- pitchByte, pitch-reads   the second byte of a pitch in the tables reads as it
--- written-note-reads   what is written reads back, from two bytes of which the first has low bits 00
--- read-note-writes     what is read is written as document 01 says that the writer does
+-- written-note-reads       what is written reads back, from two bytes of which the first has low bits 00
+-- read-note-writes         what is read is written as document 01 says that the writer does
 use Prim.Native.Nat.{ℕ, _+_, _*_, _-_, _/_, _%_, _≤_, _<_}
 use mathlib.Core.Path.{_≡_, refl, ap, subst}
 use mathlib.Core.Bool.{Bool, true, false, not, _&&_, _||_, cond}
@@ -30,8 +30,8 @@ use Rattle.meaning.specs.Laws.{octave-low}
 use Rattle.note.specs.declared.Byte.{Byte}
 use Rattle.note.specs.declared.Byte.the-variants.{Is, None}
 use Rattle.note.specs.Reading.{noteOf, toneOf, letterOf, accidentalOf}
-use Rattle.note.specs.Writing.{shapeBits, plainOnly, plainOrTriplet, lengthByte, firstByte, letterNumber, accidentalBits, toneByte, both, noteSpelling}
-use Rattle.note.specs.Usual.{usualFirst, usualSecond}
+use Rattle.note.specs.Writing.{shapeBits, plainOnly, plainOrTriplet, lengthByte, firstByte, letterNumber, accidentalBits, toneByte, twoBytes, noteSpelling}
+use Rattle.note.specs.Preferred.{preferredFirst, preferredSecond}
 use Rattle.refusals.specs.Numbers.Outcome.{accepted}
 
 pub shape-low : (s : Shape) → shapeBits s ≤ 160
@@ -47,14 +47,14 @@ accidental-low Sharp = lit≤ tt
 accidental-low DoubleSharp = lit≤ tt
 accidental-low DoubleFlat = lit≤ tt
 
-pub letter-low : (l : Letter) → letterNumber l ≤ 7
-letter-low C = lit≤ tt
-letter-low D = lit≤ tt
-letter-low E = lit≤ tt
-letter-low F = lit≤ tt
-letter-low G = lit≤ tt
-letter-low A = lit≤ tt
-letter-low B = lit≤ tt
+pub letter-number-low : (l : Letter) → letterNumber l ≤ 7
+letter-number-low C = lit≤ tt
+letter-number-low D = lit≤ tt
+letter-number-low E = lit≤ tt
+letter-number-low F = lit≤ tt
+letter-number-low G = lit≤ tt
+letter-number-low A = lit≤ tt
+letter-number-low B = lit≤ tt
 
 -- a byte, if there is one, of at most 188
 abbrev pub Low : Byte → Type 0
@@ -104,12 +104,12 @@ firstAgain a = firstByte (noteOf a 0 .duration) (noteOf a 0 .shape) (noteOf a 0 
 abbrev secondAgain : ℕ → Byte
 secondAgain b = toneByte (toneOf b)
 
--- what is computed at each byte: the writer's byte for it is the usual one, for a first byte with low bits 00
+-- what is computed at each byte: the writer's byte for it is the preferred one, for a first byte with low bits 00
 abbrev firstTest : ℕ → Bool
-firstTest a = not (eqb (a % 4) 0) || isByte (firstAgain a) (usualFirst a)
+firstTest a = not (eqb (a % 4) 0) || isByte (firstAgain a) (preferredFirst a)
 
 abbrev secondTest : ℕ → Bool
-secondTest b = isByte (secondAgain b) (usualSecond b)
+secondTest b = isByte (secondAgain b) (preferredSecond b)
 
 firsts : T (every firstTest 256)
 firsts = tt
@@ -117,18 +117,18 @@ firsts = tt
 seconds : T (every secondTest 256)
 seconds = tt
 
-first-again : (a : ℕ) → a < 256 → a % 4 ≡ 0 → firstAgain a ≡ Is (usualFirst a)
+first-again : (a : ℕ) → a < 256 → a % 4 ≡ 0 → firstAgain a ≡ Is (preferredFirst a)
 first-again a low e =
-    byte-is (firstAgain a) (usualFirst a)
-    (implied (eqb (a % 4) 0) (isByte (firstAgain a) (usualFirst a)) (every-at firstTest 256 firsts a low) (rw (e)))
+    byte-is (firstAgain a) (preferredFirst a)
+    (implied (eqb (a % 4) 0) (isByte (firstAgain a) (preferredFirst a)) (every-at firstTest 256 firsts a low) (rw (e)))
 
-second-again : (b : ℕ) → b < 256 → secondAgain b ≡ Is (usualSecond b)
+second-again : (b : ℕ) → b < 256 → secondAgain b ≡ Is (preferredSecond b)
 second-again b low =
-    byte-is (secondAgain b) (usualSecond b) (every-at secondTest 256 seconds b low)
+    byte-is (secondAgain b) (preferredSecond b) (every-at secondTest 256 seconds b low)
 
 pub read-note-writes : (a b : ℕ) → a < 256 → b < 256 → a % 4 ≡ 0
-    → noteSpelling (noteOf a b) ≡ accepted (record { first = usualFirst a; second = usualSecond b })
-read-note-writes a b lowA lowB e = λ i. both (first-again a lowA e i) (second-again b lowB i)
+    → noteSpelling (noteOf a b) ≡ accepted (record { first = preferredFirst a; second = preferredSecond b })
+read-note-writes a b lowA lowB e = λ i. twoBytes (first-again a lowA e i) (second-again b lowB i)
 
 -- that a first byte, if there is one, reads as the note it was made of
 abbrev FirstReads : Duration → Shape → Bool → Byte → Type 0
@@ -207,7 +207,7 @@ pitch-reads p e =
     let octave = octave-low p e in
     let high = accidental-high (p .accidental) in
     let bits = accidental-low (p .accidental) in
-    let letter = letter-low (p .letter) in
+    let letter = letter-number-low (p .letter) in
     let some = letter-some (p .letter) in
     let number : pitchByte p % 8 ≡ letterNumber (p .letter) = omega arith in
     let top : pitchByte p / 64 ≡ accidentalBits (p .accidental) / 64 = omega arith in
@@ -225,7 +225,7 @@ second-reads : (t : Tone) (b : ℕ) → toneByte t ≡ Is b → (toneOf b ≡ t)
 second-reads Rest b e = let is : 0 ≡ b = cc in rw (← is) (refl, omega arith)
 second-reads (Sounds p) b e = let took = tone-taken (inTables p) (pitchByte p) b e in rw (← took .1) (pitch-reads p (took .0))
 
-both-taken : (x y : Byte) (a b : ℕ) → both x y ≡ accepted (record { first = a; second = b }) → (x ≡ Is a) × (y ≡ Is b)
+both-taken : (x y : Byte) (a b : ℕ) → twoBytes x y ≡ accepted (record { first = a; second = b }) → (x ≡ Is a) × (y ≡ Is b)
 both-taken None y a b e = absurd (let z : _≡_ {A = ℕ} 0 1 = cc in omega arith)
 both-taken (Is p) None a b e = absurd (let z : _≡_ {A = ℕ} 0 1 = cc in omega arith)
 both-taken (Is p) (Is q) a b e =

@@ -1,4 +1,4 @@
 pub mod Reading
 pub mod Writing
-pub mod Usual
+pub mod Preferred
 pub mod Laws

@@ -1,13 +1,15 @@
 -- Document 01, 'A pair': 'First byte with low bits 00: a note', and 'Second byte'.
--- shapeOf          'Bits 7 and 5: 00 plain, 01 dotted, 10 triplet, 11 double dotted'
--- tripletOrPlain   'triplet when bit 7 is set'
--- utilityOf        'Code 1 is utility voice when bit 5 is set (bit 7 then has no meaning), else utility duration, ..'
--- valueOf          '2 whole, 3 half, 4 quarter, 5 eighth, 6 sixteenth, 7 thirty-second'
--- lengthOf         'Code is bits 4-2 .. Byte 00 is absolute pitch. Code 0 otherwise is a 64th, ..'
--- letterOf         '1 to 7 C D E F G A B'
--- doubleOf, accidentalOf   'bits 7-6: 11 flat, 10 natural, 01 sharp, 00 double sharp for C D F G and double flat for E A B'
--- toneOf           'bits 2-0, 0 a rest (nothing else counts) .. octave is 7 less bits 5-3'
--- noteOf           the note of two bytes, 'Bit 6 is the tie'
+-- shapeOf                  'Bits 7 and 5: 00 plain, 01 dotted, 10 triplet, 11 double dotted'
+-- tripletOrPlain           'triplet when bit 7 is set'
+-- utilityOf                'Code 1 is utility voice when bit 5 is set (bit 7 then has no meaning), else
+--                          utility duration, ..'
+-- valueOf                  '2 whole, 3 half, 4 quarter, 5 eighth, 6 sixteenth, 7 thirty-second'
+-- lengthInByte             'Code is bits 4-2 .. Byte 00 is absolute pitch. Code 0 otherwise is a 64th, ..'
+-- letterOf                 '1 to 7 C D E F G A B'
+-- doubleOf, accidentalOf   'bits 7-6: 11 flat, 10 natural, 01 sharp, 00 double sharp for C D F G and double
+--                          flat for E A B'
+-- toneOf                   'bits 2-0, 0 a rest (nothing else counts) .. octave is 7 less bits 5-3'
+-- noteOf                   the note of two bytes, 'Bit 6 is the tie'
 use Prim.Native.Nat.{ℕ, _-_, _/_, _%_}
 use mathlib.Core.Bool.{cond}
 use lib.Dec.{eqb}
@@ -45,8 +47,8 @@ valueOf code =
     (cond (eqb code 5) Eighth
     (cond (eqb code 6) Sixteenth ThirtySecond))))
 
-abbrev pub lengthOf : ℕ → Length
-lengthOf a =
+abbrev pub lengthInByte : ℕ → Length
+lengthInByte a =
     cond (eqb a 0) (record { duration = AbsolutePitch; shape = Plain })
     (cond (eqb (a / 4 % 8) 0) (record { duration = SixtyFourth; shape = tripletOrPlain (a / 128) })
     (cond (eqb (a / 4 % 8) 1) (utilityOf (a / 128) (a / 32 % 2))
@@ -73,4 +75,4 @@ toneOf b =
     (Sounds (record { letter = letterOf (b % 8); accidental = accidentalOf (b / 64) (letterOf (b % 8)); octave = 7 - b / 8 % 8 }))
 
 abbrev pub noteOf : ℕ → ℕ → Note
-noteOf a b = record { duration = lengthOf a .duration; shape = lengthOf a .shape; tied = eqb (a / 64 % 2) 1; tone = toneOf b }
+noteOf a b = record { duration = lengthInByte a .duration; shape = lengthInByte a .shape; tied = eqb (a / 64 % 2) 1; tone = toneOf b }

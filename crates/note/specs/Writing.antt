@@ -1,12 +1,12 @@
--- Document 01, 'A pair': a note's two bytes, 'Where several pairs mean one thing the writer uses: 64th with bit 5 set; utility voice with
--- bit 7 clear; rest 00'.
--- shapeBits                    bits 7 and 5 of a shape
--- plainOnly, plainOrTriplet    bytes of a duration that has not every shape
--- lengthByte                   the first byte of an untied note
--- tiedByte                     with the tie, which byte 00 cannot have
--- firstByte                    the first byte of a note
+-- Document 01, 'A pair': a note's two bytes, 'Where several pairs mean one thing the writer uses: 64th with
+-- bit 5 set; utility voice with bit 7 clear; rest 00'.
+-- shapeBits                   bits 7 and 5 of a shape
+-- plainOnly, plainOrTriplet   bytes of a duration that has not every shape
+-- lengthByte                  the first byte of an untied note
+-- tiedByte                    with the tie, which byte 00 cannot have
+-- firstByte                   the first byte of a note
 -- letterNumber, accidentalBits, toneByte   the second byte
--- both, noteSpelling           the two bytes, or 43
+-- twoBytes, noteSpelling      the two bytes, or 43
 use Prim.Native.Nat.{ℕ, _+_, _*_, _-_}
 use mathlib.Core.Bool.{Bool, true, false, cond}
 use lib.Dec.{eqb}
@@ -86,10 +86,10 @@ abbrev pub toneByte : Tone → Byte
 toneByte Rest = Is 0
 toneByte (Sounds p) = cond (inTables p) (Is (accidentalBits (p .accidental) + 8 * (7 - p .octave) + letterNumber (p .letter))) None
 
-abbrev pub both : Byte → Byte → Outcome Bytes
-both None b = refused (numberOf noPair) 0
-both (Is a) None = refused (numberOf noPair) 0
-both (Is a) (Is b) = accepted (record { first = a; second = b })
+abbrev pub twoBytes : Byte → Byte → Outcome Bytes
+twoBytes None b = refused (numberOf noPair) 0
+twoBytes (Is a) None = refused (numberOf noPair) 0
+twoBytes (Is a) (Is b) = accepted (record { first = a; second = b })
 
 abbrev pub noteSpelling : Note → Outcome Bytes
-noteSpelling n = both (firstByte (n .duration) (n .shape) (n .tied)) (toneByte (n .tone))
+noteSpelling n = twoBytes (firstByte (n .duration) (n .shape) (n .tied)) (toneByte (n .tone))

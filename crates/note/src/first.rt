@@ -1,6 +1,6 @@
 // The first byte of a note: tie and duration.
 ghost use mathlib.Core.Path.{_≡_};
-ghost use Rattle.note.specs.Reading.{lengthOf, shapeOf, utilityOf, tripletOrPlain};
+ghost use Rattle.note.specs.Reading.{lengthInByte, shapeOf, utilityOf, tripletOrPlain};
 ghost use Rattle.note.specs.Writing.{shapeBits, plainOnly, plainOrTriplet, lengthByte, firstByte};
 use crate::Byte;
 use meaning::Duration;
@@ -63,7 +63,7 @@ fn valued(duration: Duration, bit7: u8, bit5: u8) -> Length
 }
 
 pub fn length_of(first: u8) -> Length
-    ensures { λ r. ⌜ r ≡ lengthOf first ⌝ }
+    ensures { λ r. ⌜ r ≡ lengthInByte first ⌝ }
 {
     if first == 0 {
         return Length {
@@ -141,7 +141,8 @@ fn length_byte(duration: Duration, shape: Shape) -> Byte
     }
 }
 
-// The first byte of a note: an untied note's, with 64 added for the tie, which absolute pitch (0) cannot have.
+// The first byte of a note: an untied note's, with 64 added for the tie, which absolute pitch (0) cannot
+// have.
 pub fn first_byte(duration: Duration, shape: Shape, tied: bool) -> Byte
     ensures { λ r. ⌜ r ≡ firstByte duration shape tied ⌝ }
 {

@@ -1,6 +1,6 @@
-// A note's two bytes: read, and written in the writer's spelling, for crates of ours.
+// A note's two bytes: read, and written in the writer's spelling. Internal: for our other crates.
 ghost use mathlib.Core.Path.{_≡_};
-ghost use Rattle.meaning.specs.Answers.{toldBytes};
+ghost use Rattle.meaning.specs.Answers.{outcomeOfBytes};
 ghost use Rattle.note.specs.Reading.{noteOf};
 ghost use Rattle.note.specs.Writing.{noteSpelling};
 use meaning::Note;
@@ -35,7 +35,7 @@ pub fn read_note(first: u8, second: u8) -> Note
 
 // internal: a note's two bytes, or 43.
 pub fn write_note(note: Note) -> Spelling
-    ensures { λ r. ⌜ toldBytes r ≡ noteSpelling note ⌝ }
+    ensures { λ r. ⌜ outcomeOfBytes r ≡ noteSpelling note ⌝ }
 {
     let duration = note.duration;
     let shape = note.shape;

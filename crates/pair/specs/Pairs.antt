@@ -1,6 +1,8 @@
 -- Document 01, 'A pair': what two bytes mean, and how a meaning is written.
--- meaningOf    a pair's meaning, or 27 (unassigned) or 28 (out of range): 'First byte with low bits 00: a note', else a command
--- spellingOf   a meaning's two bytes, or 43: notes, then 004's commands in its order, each with its greatest value and where the value stands
+-- meaningOf    a pair's meaning, or 27 (unassigned) or 28 (out of range): 'First byte with low bits 00: a
+--              note', else a command
+-- spellingOf   a meaning's two bytes, or 43: notes, then 004's commands in its order, each with its greatest
+--              value and where the value stands
 use Prim.Native.Nat.{ℕ, _%_}
 use mathlib.Core.Bool.{cond}
 use lib.Dec.{eqb}
@@ -11,7 +13,7 @@ use Rattle.note.specs.Reading.{noteOf}
 use Rattle.note.specs.Writing.{noteSpelling}
 use Rattle.command.specs.Pair.{commandOutcome}
 use Rattle.spelling.specs.Counts.{pair, bumped, switched, onlyYes, counted, phrase, destination, alone, joined, tempo}
-use Rattle.spelling.specs.Signs.{signedByte, jif, dtn, tps, rtp}
+use Rattle.spelling.specs.Signs.{spelledSigned, jif, dtn, tps, rtp}
 use Rattle.refusals.specs.Numbers.{Outcome}
 use Rattle.refusals.specs.Numbers.Outcome.{accepted}
 
@@ -51,12 +53,12 @@ spellingOf (Utl v) = alone 0x16 v 255
 spellingOf (Pnt v) = alone 0x26 v 255
 spellingOf (Hed v) = alone 0x36 v 255
 spellingOf (Flg v) = alone 0x46 v 255
-spellingOf (Ps z) = signedByte 0x56 z 128 127
-spellingOf (Fs z) = signedByte 0x66 z 128 127
-spellingOf (Sca z) = signedByte 0x6E z 7 7
+spellingOf (Ps z) = spelledSigned 0x56 z 128 127
+spellingOf (Fs z) = spelledSigned 0x66 z 128 127
+spellingOf (Sca z) = spelledSigned 0x6E z 7 7
 spellingOf (Vdp v) = alone 0x76 v 127
 spellingOf (Vrt v) = alone 0x86 v 255
-spellingOf (Aut z) = signedByte 0x96 z 128 127
+spellingOf (Aut z) = spelledSigned 0x96 z 128 127
 spellingOf (Tps z) = tps z
 spellingOf (Aux v) = alone 0xB6 v 255
 spellingOf (Pvd v) = alone 0xC6 v 127

@@ -1,6 +1,6 @@
 // A pair of a MUS voice: read, and written. Each call answers for every value, and none has a requires.
 ghost use mathlib.Core.Path.{_≡_};
-ghost use Rattle.meaning.specs.Answers.{toldMeaning, toldBytes};
+ghost use Rattle.meaning.specs.Answers.{outcomeOfMeaning, outcomeOfBytes};
 ghost use Rattle.pair.specs.Pairs.{meaningOf, spellingOf};
 use meaning::Meaning;
 use meaning::Reading;
@@ -8,7 +8,7 @@ use meaning::Spelling;
 
 // Reads a pair: what its two bytes mean, or 27 or 28.
 pub fn read(first: u8, second: u8) -> Reading
-    ensures { λ r. ⌜ toldMeaning r ≡ meaningOf first second ⌝ }
+    ensures { λ r. ⌜ outcomeOfMeaning r ≡ meaningOf first second ⌝ }
 {
     if first % 4 == 0 {
         Reading::Means(Meaning::Note(note::read_note(first, second)))
@@ -17,9 +17,10 @@ pub fn read(first: u8, second: u8) -> Reading
     }
 }
 
-// Writes a meaning: its two bytes in the writer's spelling, or 43 where no pair has it. One line a case, in source 004's order.
+// Writes a meaning: its two bytes in the writer's spelling, or 43 where no pair has it. One line a case, in
+// source 004's order.
 pub fn write(meaning: Meaning) -> Spelling
-    ensures { λ r. ⌜ toldBytes r ≡ spellingOf meaning ⌝ }
+    ensures { λ r. ⌜ outcomeOfBytes r ≡ spellingOf meaning ⌝ }
 {
     match meaning {
         Meaning::Note(note) => note::write_note(note),

@@ -3,12 +3,13 @@
 -- written       a code's two bytes; 'every other number is a meaning without a pair (43)'
 use Prim.Native.Nat.{ℕ, _+_, _*_}
 use Rattle.refusals.specs.Numbers.{Outcome}
+use Rattle.refusals.specs.Tests.{andThen}
 use Rattle.meaning.specs.Answers.{Bytes}
-use Rattle.decoding.specs.Decoding.{after, decoded}
+use Rattle.decoding.specs.Decoding.{decoded}
 use Rattle.pair.specs.Pairs.{spellingOf}
 
 abbrev pub bytesNumber : Bytes → ℕ
 bytesNumber b = b .first * 256 + b .second
 
 unfoldable pub written : ℕ → Outcome Bytes
-written code = after (decoded code) (λ m. spellingOf m)
+written code = andThen (decoded code) (λ m. spellingOf m)

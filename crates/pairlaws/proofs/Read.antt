@@ -19,14 +19,14 @@ use Rattle.meaning.specs.declared.Meaning.the-variants.{Pw, Dtn}
 use Rattle.meaning.specs.Answers.{Bytes}
 use Rattle.logic.specs.Every.{every, every-at, all-left, all-right}
 use Rattle.note.specs.Reading.{noteOf}
-use Rattle.note.specs.Usual.{usualFirst, usualSecond}
+use Rattle.note.specs.Preferred.{preferredFirst, preferredSecond}
 use Rattle.note.specs.Laws.{read-note-writes}
 use Rattle.commandsigns.specs.Signs.{detuningOf, jifOutcome}
 use Rattle.command.specs.Others.{joinedOutcome}
 use Rattle.command.proofs.Firsts.{isOneOf, singles, joined-as}
 use Rattle.spelling.specs.Counts.{joined}
 use Rattle.pair.specs.Pairs.{meaningOf, spellingOf}
-use Rattle.pair.specs.Usual.{usual}
+use Rattle.pair.specs.Preferred.{preferred}
 use Rattle.pairlaws.specs.Statements.{WrittenAs}
 use Rattle.pairlaws.proofs.FirstBytes.{other-meaning, pw-meaning}
 
@@ -36,7 +36,7 @@ sameBytes (accepted x) y = eqb (x .first) (y .first) && eqb (x .second) (y .seco
 sameBytes (refused number place) y = false
 
 abbrev writtenAs : ℕ → ℕ → Outcome Meaning → Bool
-writtenAs a b (accepted m) = sameBytes (spellingOf m) (usual a b)
+writtenAs a b (accepted m) = sameBytes (spellingOf m) (preferred a b)
 writtenAs a b (refused number place) = true
 
 bytes-same : (o : Outcome Bytes) (y : Bytes) → T (sameBytes o y) → o ≡ accepted y
@@ -47,7 +47,7 @@ bytes-same (accepted x) y t =
 bytes-same (refused number place) y t = absurd t
 
 tested : (a b : ℕ) (o : Outcome Meaning) → T (writtenAs a b o) → WrittenAs a b o
-tested a b (accepted m) t = bytes-same (spellingOf m) (usual a b) t
+tested a b (accepted m) t = bytes-same (spellingOf m) (preferred a b) t
 tested a b (refused number place) t = tt
 
 abbrev everyOf : List ℕ → (ℕ → Bool) → Bool
@@ -69,8 +69,8 @@ singles-written = tt
 in-row : (a b : ℕ) → b < 256 → T (row a) → WrittenAs a b (meaningOf a b)
 in-row a b h t = tested a b (meaningOf a b) (every-at (λ k. writtenAs a k (meaningOf a k)) 256 t b h)
 
-plain-usual : (a b : ℕ) → (a % 4 ≡ 0 → ⊥) → (a ≡ 0xA6 → ⊥) → (a ≡ 0x2E → ⊥) → usual a b ≡ record { first = a; second = b }
-plain-usual a b note tps rtp = rw (ne-eqb (a % 4) 0 note, ne-eqb a 0xA6 tps, ne-eqb a 0x2E rtp)
+plain-preferred : (a b : ℕ) → (a % 4 ≡ 0 → ⊥) → (a ≡ 0xA6 → ⊥) → (a ≡ 0x2E → ⊥) → preferred a b ≡ record { first = a; second = b }
+plain-preferred a b note tps rtp = rw (ne-eqb (a % 4) 0 note, ne-eqb a 0xA6 tps, ne-eqb a 0x2E rtp)
 
 joined-writes : (v most base step a b : ℕ) → v ≤ most → base + step * (v / 256) ≡ a → v % 256 ≡ b
     → joined v most base step ≡ accepted (record { first = a; second = b })
@@ -102,8 +102,8 @@ module _ (a b : ℕ) (ha : a < 256) (hb : b < 256) where
             ]
       ]
     where
-      plain : usual a b ≡ record { first = a; second = b }
-      plain = plain-usual a b (λ z. omega (arith, e)) (λ z. omega (arith, e)) (λ z. omega (arith, e))
+      plain : preferred a b ≡ record { first = a; second = b }
+      plain = plain-preferred a b (λ z. omega (arith, e)) (λ z. omega (arith, e)) (λ z. omega (arith, e))
 
   -- DTN with its sign bit clear, and set
   dtn-written : a % 16 ≡ 0x0A → WrittenAs a b (accepted (Dtn (detuningOf (a / 32 * 256 + b) (a / 16 % 2))))
@@ -123,15 +123,15 @@ module _ (a b : ℕ) (ha : a < 256) (hb : b < 256) where
             (joined-writes v 2047 0x1A 32 a b (omega arith) (omega arith) (omega arith))
       ]
     where
-      plain : usual a b ≡ record { first = a; second = b }
-      plain = plain-usual a b (λ z. omega (arith, e)) (λ z. omega (arith, e)) (λ z. omega (arith, e))
+      plain : preferred a b ≡ record { first = a; second = b }
+      plain = plain-preferred a b (λ z. omega (arith, e)) (λ z. omega (arith, e)) (λ z. omega (arith, e))
 
   joined-written : (a % 4 ≡ 0 → ⊥) → isOneOf singles a ≡ false → WrittenAs a b (joinedOutcome a b)
   joined-written note none =
       rw (joined-as a b ha)
       (elim (ℕ-discrete (a % 64) 0x1E) [
         | yes ms ↦
-            rw (ms, plain-usual a b note (λ z. omega arith) (λ z. omega arith))
+            rw (ms, plain-preferred a b note (λ z. omega arith) (λ z. omega arith))
             (joined-writes (a / 64 * 256 + b) 1023 0x1E 64 a b (omega arith) (omega arith) (omega arith))
         | no q ↦ elim (ℕ-discrete (a % 64) 0x3E) [
           | yes jif ↦ rw (ne-eqb (a % 64) 0x1E q, jif) (jif-written jif)
@@ -139,7 +139,7 @@ module _ (a b : ℕ) (ha : a < 256) (hb : b < 256) where
             | yes dtn ↦ rw (ne-eqb (a % 64) 0x1E q, ne-eqb (a % 64) 0x3E r, dtn) (dtn-written dtn)
             | no s ↦ elim (ℕ-discrete (a % 4) 3) [
               | yes por ↦
-                  rw (ne-eqb (a % 64) 0x1E q, ne-eqb (a % 64) 0x3E r, ne-eqb (a % 16) 0x0A s, por, plain-usual a b note (λ z. omega arith) (λ z. omega arith))
+                  rw (ne-eqb (a % 64) 0x1E q, ne-eqb (a % 64) 0x3E r, ne-eqb (a % 16) 0x0A s, por, plain-preferred a b note (λ z. omega arith) (λ z. omega arith))
                   (joined-writes (a / 4 * 256 + b) 16383 0x03 4 a b (omega arith) (omega arith) (omega arith))
               | no t ↦ rw (ne-eqb (a % 64) 0x1E q, ne-eqb (a % 64) 0x3E r, ne-eqb (a % 16) 0x0A s, ne-eqb (a % 4) 3 t) tt
             ]
@@ -149,14 +149,14 @@ module _ (a b : ℕ) (ha : a < 256) (hb : b < 256) where
 
   pw-written-as : a % 16 ≡ 2 → WrittenAs a b (accepted (Pw (a / 16 * 256 + b)))
   pw-written-as e =
-      rw (plain-usual a b (λ z. omega arith) (λ z. omega arith) (λ z. omega arith))
+      rw (plain-preferred a b (λ z. omega arith) (λ z. omega arith) (λ z. omega arith))
       (joined-writes (a / 16 * 256 + b) 4095 0x02 16 a b (omega arith) (omega arith) (omega arith))
 
   note-written : a % 4 ≡ 0 → WrittenAs a b (meaningOf a b)
   note-written e =
       let is = eq-eqb (a % 4) 0 e in
       let means : meaningOf a b ≡ accepted (M.Note (noteOf a b)) = rw (is) in
-      let used : usual a b ≡ record { first = usualFirst a; second = usualSecond b } = rw (is) in
+      let used : preferred a b ≡ record { first = preferredFirst a; second = preferredSecond b } = rw (is) in
       with-meaning a b (accepted (M.Note (noteOf a b))) means (read-note-writes a b ha hb e ∙ ap accepted (sym used))
 
   rest-written : (a % 4 ≡ 0 → ⊥) → isOneOf (1 ∷ singles) a ≡ false → WrittenAs a b (meaningOf a b)

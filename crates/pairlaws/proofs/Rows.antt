@@ -1,9 +1,9 @@
 -- The tables' rows lie apart, so that their order says nothing; and the half-steps lie between -1 and 96.
--- seconds-apart      no second byte behind 01 fits two rows
--- firsts-apart       no first byte fits two rows of the other table
--- seconds-unassigned 'Unassigned: 53 6F 7F 83 8B 9F BF CF FF', behind 01
--- firsts-unassigned  'Unassigned: low bits 01 other than 01, and 8E AE CE EE'
--- step-range         the half-step of every pitch in the tables is -1 to 96
+-- seconds-apart       no second byte after 01 fits two rows
+-- firsts-apart        no first byte fits two rows of the other table
+-- seconds-unassigned 'Unassigned: 53 6F 7F 83 8B 9F BF CF FF', after 01
+-- firsts-unassigned   'Unassigned: low bits 01 other than 01, and 8E AE CE EE'
+-- step-range          the half-step of every pitch in the tables is -1 to 96
 use Prim.Native.Nat.{ℕ, _+_, _%_, _<_, _≤_}
 use mathlib.Core.Path.{_≡_, subst}
 use mathlib.Core.Bool.{Bool, true, false, _&&_, _||_}
@@ -20,8 +20,8 @@ use Rattle.note.specs.Reading.{toneOf}
 use Rattle.note.specs.Laws.{pitchByte, pitch-reads}
 use Rattle.commandtable.specs.Patterns.{fits}
 use Rattle.commandtable.specs.Codes as Codes
-use Rattle.commandtable.specs.Codes.{rows, holds}
-use Rattle.command.specs.Others.{Row, pulse, single, joined}
+use Rattle.commandtable.specs.Codes.{rows, fitsRow}
+use Rattle.command.specs.Others.{FirstRow, pulseRows, singleRows, joinedRows}
 use Rattle.command.proofs.Firsts.{isOneOf}
 
 abbrev one : Bool → ℕ
@@ -30,7 +30,7 @@ one false = 0
 
 abbrev pub holding : List Codes.Row → ℕ → ℕ
 holding [] b = 0
-holding (r ∷ rs) b = one (holds r b) + holding rs b
+holding (r ∷ rs) b = one (fitsRow r b) + holding rs b
 
 pub seconds-apart : (b : ℕ) → b < 256 → holding rows b ≤ 1
 seconds-apart b h = leb→le (holding rows b) 1 (every-at (λ k. leb (holding rows k) 1) 256 tt b h)
@@ -43,12 +43,12 @@ seconds-unassigned b h =
     same-equal (eqb (holding rows b) 0) (isOneOf unassignedSeconds b)
     (every-at (λ k. same (eqb (holding rows k) 0) (isOneOf unassignedSeconds k)) 256 tt b h)
 
-abbrev pub fitting : List Row → ℕ → ℕ
+abbrev pub fitting : List FirstRow → ℕ → ℕ
 fitting [] a = 0
 fitting (r ∷ rs) a = one (fits (r .pattern) a) + fitting rs a
 
-abbrev pub others : List Row
-others = pulse ++ single ++ joined
+abbrev pub others : List FirstRow
+others = pulseRows ++ singleRows ++ joinedRows
 
 pub firsts-apart : (a : ℕ) → a < 256 → fitting others a ≤ 1
 firsts-apart a h = leb→le (fitting others a) 1 (every-at (λ k. leb (fitting others k) 1) 256 tt a h)

@@ -1,7 +1,7 @@
 -- What is written reads back, for signed values in one byte.
--- byte-up, byte-down    P-S, F-S and AUT
--- sca-up, sca-down      SCA
--- tps-back, rtp-back    TPS and RTP, by one test over the sizes of either sign
+-- byte-up, byte-down   P-S, F-S and AUT
+-- sca-up, sca-down     SCA
+-- tps-back, rtp-back   TPS and RTP, by one test over the sizes of either sign
 use Prim.Native.Nat.{ℕ, _+_, _*_, _-_, _/_, _%_, _≤_}
 use mathlib.Core.Path.{_≡_, refl, _∙_, ap}
 use mathlib.Core.Bool.{Bool, true, not, _&&_, cond}
@@ -20,7 +20,7 @@ use Rattle.commandsigns.specs.Signs.{signedByte, tpsValue, rtpValue}
 use Rattle.spelling.specs.Counts.{pair, noBytes}
 use Rattle.spelling.specs.Signs.{tps, rtp}
 use Rattle.pair.specs.Pairs.{meaningOf}
-use Rattle.pairlaws.specs.Statements.{Good, ReadsBack}
+use Rattle.pairlaws.specs.Statements.{Means, ReadsBack}
 
 pub byte-up : (n : ℕ) → n ≤ 127 → signedByte n ≡ pos n
 byte-up n h = sameℤ-equal (signedByte n) (pos n) (every-at (λ k. sameℤ (signedByte k) (pos k)) 128 tt n (omega arith))
@@ -42,7 +42,7 @@ module _ (M : ℤ → Meaning) (first : ℕ) (inside : ℕ → Bool) (value : �
   abbrev right : ℕ → ℤ → Bool
   right b z = inside b && sameℤ (value b) z && ltb b 256
 
-  byte-good : (b : ℕ) (z : ℤ) → T (right b z) → Good (M z) first b
+  byte-good : (b : ℕ) (z : ℤ) → T (right b z) → Means (M z) first b
   byte-good b z t =
       let two = all-left (inside b && sameℤ (value b) z) (ltb b 256) t in
       let in-range = true-of (inside b) (all-left (inside b) (sameℤ (value b) z) two) in

@@ -1,6 +1,6 @@
 -- What is written reads back, for each kind of value: one law a kind, whatever the command.
 -- picked, picked-else   a choice of two spellings
--- counted-back, phrase-back, at-most-back    the kinds without a sign
+-- counted-back, phrase-back, at-most-back   the kinds without a sign
 -- single-back, tempo-back, signed-back
 use Prim.Native.Nat.{ℕ, _+_, _*_, _-_, _/_, _%_, _≤_, _<_}
 use mathlib.Core.Path.{_≡_, refl, sym, _∙_, ap, subst}
@@ -17,20 +17,20 @@ use Rattle.meaning.specs.declared.Meaning.{Meaning}
 use Rattle.meaning.specs.Answers.{Bytes}
 use Rattle.logic.specs.Every.{every, every-at, all-left, all-right}
 use Rattle.commandtable.specs.Codes as Codes
-use Rattle.commandtable.specs.Codes.{Command, coded}
-use Rattle.commandtable.specs.Numbering.{numberOf, commandAt}
+use Rattle.commandtable.specs.Codes.{Command, secondMeans}
+use Rattle.commandtable.specs.Numbering.{commandNumber, commandNumbered}
 use Rattle.commandtable.proofs.Table.{command-back}
 use Rattle.spelling.specs.Counts.{pair, noBytes, counted, phrase, alone, joined}
-use Rattle.spelling.specs.Signs.{signedByte}
+use Rattle.spelling.specs.Signs.{spelledSigned}
 use Rattle.spelling.proofs.Steps.{stepped}
 use Rattle.pair.specs.Pairs.{meaningOf}
-use Rattle.pairlaws.specs.Statements.{Good, ReadsBack}
+use Rattle.pairlaws.specs.Statements.{Means, ReadsBack}
 
-pub picked : (m : Meaning) (t : Bool) (a b : ℕ) → (t ≡ true → Good m a b) → ReadsBack m (cond t (pair a b) noBytes)
+pub picked : (m : Meaning) (t : Bool) (a b : ℕ) → (t ≡ true → Means m a b) → ReadsBack m (cond t (pair a b) noBytes)
 picked m true a b f = f refl
 picked m false a b f = (refl, refl)
 
-pub picked-else : (m : Meaning) (t : Bool) (a b : ℕ) (x : Outcome Bytes) → (t ≡ true → Good m a b) → ReadsBack m x → ReadsBack m (cond t (pair a b) x)
+pub picked-else : (m : Meaning) (t : Bool) (a b : ℕ) (x : Outcome Bytes) → (t ≡ true → Means m a b) → ReadsBack m x → ReadsBack m (cond t (pair a b) x)
 picked-else m true a b x f g = f refl
 picked-else m false a b x f g = g
 
@@ -40,30 +40,30 @@ at-value M v k x y f g =
 
 -- the second byte's command and value, as a test
 abbrev pub codedIs : Command → ℕ → ℕ → Bool
-codedIs c b v = eqb (numberOf (coded b .command)) (numberOf c) && eqb (coded b .value) v && ltb b 256
+codedIs c b v = eqb (commandNumber (secondMeans b .command)) (commandNumber c) && eqb (secondMeans b .value) v && ltb b 256
 
-same-command : (c d : Command) → numberOf c ≡ numberOf d → c ≡ d
-same-command c d e = sym (command-back c) ∙ ap commandAt e ∙ command-back d
+same-command : (c d : Command) → commandNumber c ≡ commandNumber d → c ≡ d
+same-command c d e = sym (command-back c) ∙ ap commandNumbered e ∙ command-back d
 
-pub coded-good : (c : Command) (M : ℕ → Meaning) → ((v : ℕ) → Codes.meaningOf c v ≡ accepted (M v))
-    → (b v : ℕ) → T (codedIs c b v) → Good (M v) 1 b
+pub coded-good : (c : Command) (M : ℕ → Meaning) → ((v : ℕ) → Codes.commandMeaning c v ≡ accepted (M v))
+    → (b v : ℕ) → T (codedIs c b v) → Means (M v) 1 b
 coded-good c M is b v t =
-    let k = coded b .command in
-    let first = eqb (numberOf k) (numberOf c) in
-    let second = eqb (coded b .value) v in
+    let k = secondMeans b .command in
+    let first = eqb (commandNumber k) (commandNumber c) in
+    let second = eqb (secondMeans b .value) v in
     let both = all-left (first && second) (ltb b 256) t in
-    let command = same-command k c (eqb→eq (numberOf k) (numberOf c) (all-left first second both)) in
-    let value = eqb→eq (coded b .value) v (all-right first second both) in
+    let command = same-command k c (eqb→eq (commandNumber k) (commandNumber c) (all-left first second both)) in
+    let value = eqb→eq (secondMeans b .value) v (all-right first second both) in
     (rw (command, value) (is v), lit< tt, ltb→lt b 256 (all-right (first && second) (ltb b 256) t))
 
-pub counted-back : (c : Command) (M : ℕ → Meaning) → ((v : ℕ) → Codes.meaningOf c v ≡ accepted (M v))
+pub counted-back : (c : Command) (M : ℕ → Meaning) → ((v : ℕ) → Codes.commandMeaning c v ≡ accepted (M v))
     → (v most base step : ℕ) → T (every (λ k. codedIs c (base + step * k) k) (most + 1)) → ReadsBack (M v) (counted v most base step)
 counted-back c M is v most base step t =
     picked (M v) (leb v most) 1 (base + step * v)
     (λ e. let low = leb-true v most e in
     coded-good c M is (base + step * v) v (every-at (λ k. codedIs c (base + step * k) k) (most + 1) t v (omega arith)))
 
-pub phrase-back : (c : Command) (M : ℕ → Meaning) → ((v : ℕ) → Codes.meaningOf c v ≡ accepted (M v))
+pub phrase-back : (c : Command) (M : ℕ → Meaning) → ((v : ℕ) → Codes.commandMeaning c v ≡ accepted (M v))
     → (v low high : ℕ) → T (every (λ k. codedIs c (low + 16 * k) k) 16) → T (every (λ k. codedIs c (high + 16 * (17 + k - 16)) (17 + k)) 7)
     → ReadsBack (M v) (phrase v low high)
 phrase-back c M is v low high t u =
@@ -71,7 +71,7 @@ phrase-back c M is v low high t u =
     (λ e. let h = leb-true v 15 e in coded-good c M is (low + 16 * v) v (every-at (λ k. codedIs c (low + 16 * k) k) 16 t v (omega arith)))
     (picked (M v) (leb 17 v && leb v 23) 1 (high + 16 * (v - 16)) upper)
   where
-    upper : leb 17 v && leb v 23 ≡ true → Good (M v) 1 (high + 16 * (v - 16))
+    upper : leb 17 v && leb v 23 ≡ true → Means (M v) 1 (high + 16 * (v - 16))
     upper e =
         let g = leb-true 17 v (both-left (leb 17 v) (leb v 23) e) in
         let h = leb-true v 23 (both-right (leb 17 v) (leb v 23) e) in
@@ -86,7 +86,7 @@ single-back M first v most is f m =
     (λ e. let low = leb-true v most e in let top = ltb→lt most 256 m in (is v low, ltb→lt first 256 f, omega arith))
 
 pub joined-good : (m : Meaning) (v most base step : ℕ) → v ≤ most → T (ltb (base + step * (most / 256)) 256)
-    → meaningOf (base + step * (v / 256)) (v % 256) ≡ accepted m → Good m (base + step * (v / 256)) (v % 256)
+    → meaningOf (base + step * (v / 256)) (v % 256) ≡ accepted m → Means m (base + step * (v / 256)) (v % 256)
 joined-good m v most base step low top is =
     (is, stepped (v / 256) (most / 256) base step (omega (arith, low)) (ltb→lt (base + step * (most / 256)) 256 top), omega arith)
 
@@ -99,7 +99,7 @@ joined-back M v most base step top is =
 pub signed-back : (M : ℤ → Meaning) (first below above : ℕ)
     → ((n : ℕ) → n ≤ above → meaningOf first n ≡ accepted (M (pos n)))
     → ((n : ℕ) → n + 1 ≤ below → meaningOf first (256 - (n + 1)) ≡ accepted (M (negsuc n)))
-    → T (ltb first 256) → T (ltb above 256) → (z : ℤ) → ReadsBack (M z) (signedByte first z below above)
+    → T (ltb first 256) → T (ltb above 256) → (z : ℤ) → ReadsBack (M z) (spelledSigned first z below above)
 signed-back M first below above up down f a (pos n) =
     cases (leb n above)
     (λ e. let low = leb-true n above e in

@@ -1,4 +1,5 @@
--- What is written reads back as what was to be written; where nothing is written the answer is 43, place 0. By cases of a meaning.
+-- What is written reads back as what was to be written; where nothing is written the answer is 43, place 0.
+-- By cases of a meaning.
 -- reads-back   for every meaning
 use Prim.Native.Nat.{ℕ, _+_, _-_, _%_, _<_}
 use mathlib.Core.Path.{_≡_, refl, ap}
@@ -19,7 +20,7 @@ use Rattle.logic.specs.Every.{every-at}
 use Rattle.note.specs.declared.Byte.{Byte}
 use Rattle.note.specs.declared.Byte.the-variants.{Is, None}
 use Rattle.note.specs.Reading.{noteOf}
-use Rattle.note.specs.Writing.{lengthByte, tiedByte, toneByte, both, noteSpelling}
+use Rattle.note.specs.Writing.{lengthByte, tiedByte, toneByte, twoBytes, noteSpelling}
 use Rattle.note.specs.Laws.{written-note-reads}
 use Rattle.commandtable.specs.Codes.{DCY, RUP, CAL, DEF, ATK, SUS, LFO, RDN, WAV, F-M, RLS, RES, VOL, SRC}
 use Rattle.command.specs.Others.{tempoOf}
@@ -34,8 +35,8 @@ note-back : (n : Note) → ReadsBack (M.Note n) (noteSpelling n)
 note-back n =
     go (tiedByte (lengthByte (n .duration) (n .shape)) (n .tied)) (toneByte (n .tone)) (λ a b e. written-note-reads n a b e)
   where
-    go : (x y : Byte) → ((a b : ℕ) → both x y ≡ accepted (record { first = a; second = b }) → (a % 4 ≡ 0) × (noteOf a b ≡ n) × (a < 256) × (b < 256))
-        → ReadsBack (M.Note n) (both x y)
+    go : (x y : Byte) → ((a b : ℕ) → twoBytes x y ≡ accepted (record { first = a; second = b }) → (a % 4 ≡ 0) × (noteOf a b ≡ n) × (a < 256) × (b < 256))
+        → ReadsBack (M.Note n) (twoBytes x y)
     go None y f = (refl, refl)
     go (Is a) None f = (refl, refl)
     go (Is a) (Is b) f = let r = f a b refl in (rw (eq-eqb (a % 4) 0 (r .0)) (ap (λ k. accepted (M.Note k)) (r .1)), r .2, r .3)

@@ -9,7 +9,7 @@ use native.Mathlib.Omega.{arith}
 use lib.Dec.{ltb}
 use lib.ListN.{getD}
 use borrow.Author.Tests.{ne-eqb, ltb-true}
-use Rattle.fields.specs.Entries.{entryAt, joined, entry-joined}
+use Rattle.fields.specs.Entries.{entryAt, entriesJoined, entry-joined}
 use Rattle.refusals.specs.Numbers.{Reason, numberOf}
 use Rattle.logic.specs.Truth.{both}
 use Rattle.reasons.specs.Phrases.{table, found, phraseAt}
@@ -42,5 +42,5 @@ phrase-from i (suc k) (suc n) e = let m : i + 1 + n ≡ i + suc n = omega arith 
 abbrev pub phrases : List (List ℕ)
 phrases = phrasesFrom 0 bound
 
-pub phrases-held : (n : ℕ) → entryAt (joined 10 phrases) 10 n ≡ phraseAt n
+pub phrases-held : (n : ℕ) → entryAt (entriesJoined 10 phrases) 10 n ≡ phraseAt n
 phrases-held n = let m : 0 + n ≡ n = omega arith in entry-joined 10 phrases n refl ∙ phrase-from 0 bound n refl ∙ ap phraseAt m

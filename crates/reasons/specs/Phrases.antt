@@ -1,7 +1,7 @@
--- Document 01, 'What comes back': the reason behind each number, in words for a person.
--- phraseOf    a phrase for each line of the table
--- table       the table's lines
--- byteText    a text as bytes
+-- Document 01, 'What comes back': the reason for each number, in words for a person.
+-- phraseOf          a phrase for each line of the table
+-- table             the table's lines
+-- byteText          a text as bytes
 -- found, phraseAt   the phrase of a number; nothing where the table has no such number
 use Prim.Native.Nat.{ℕ}
 use Prim.Native.String.{String}

@@ -1,4 +1,4 @@
-// The reason behind each number, in words for a person.
+// The reason for each number, in words for a person.
 ghost use mathlib.Core.Path.{_≡_};
 ghost use Prim.Native.Nat.{min};
 ghost use lib.ListN.{length};

@@ -20,7 +20,7 @@ use Rattle.refusals.specs.Laws.{later, passed-none}
 use Rattle.fields.specs.Numbers.{be16, be32}
 use Rattle.sidheader.specs.declared.Fields.{Fields}
 use Rattle.sidheader.specs.Fields.{fieldsOf}
-use Rattle.sidheader.specs.Payload.{addressed, after, payloadOf}
+use Rattle.sidheader.specs.Payload.{addressed, afterAddress, payloadOf}
 use Rattle.sidrefusals.specs.HeaderTests.{one, two, headerTests}
 use Rattle.sidrefusals.specs.PayloadTests.{payloadTests}
 use Rattle.sid.specs.Answers.{sidOutcome}
@@ -97,7 +97,7 @@ unfolding payloadOf
 too-long f x o h =
     let some : x .size - x .offset ≡ 0 → ⊥ = omega arith in
     cases (addressed x)
-    (λ e. rw (e, le-ltb (x .size - x .offset) 3 (omega arith), lt-ltb 65536 (after f x .load + (x .size - (x .offset + 2))) (omega arith)))
+    (λ e. rw (e, le-ltb (x .size - x .offset) 3 (omega arith), lt-ltb 65536 (afterAddress f x .load + (x .size - (x .offset + 2))) (omega arith)))
     (λ e. rw (e, ne-eqb (x .size - x .offset) 0 some, lt-ltb 65536 (x .load + (x .size - x .offset)) (omega arith)))
 
 -- a long file is refused by its header or with 10

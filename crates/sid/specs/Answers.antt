@@ -1,9 +1,9 @@
 -- Document 01, 'What comes back' and 'PSID and RSID': what reading a PSID or RSID file comes back with.
--- told         the paper's number and values for each case of an answer
--- sidOutcome   the first of 1 to 13 that applies, else the header
--- Passing, passing, toldTested, testedOutcome   the same with the fields and the payload that the header is
---                                               made of, for code that needs no texts
--- headed       such an outcome with its header made
+-- outcomeOfTune   the paper's number and values for each case of an answer
+-- sidOutcome      the first of 1 to 13 that applies, else the header
+-- Passing, passing, outcomeOfTested, testedOutcome   the same with the fields and the payload that the header
+--                                                    is made of, for code that needs no texts
+-- headed          such an outcome with its header made
 use Prim.Native.Nat.{ℕ}
 use mathlib.Core.List.{List}
 use Rattle.refusals.specs.Numbers.{Outcome}
@@ -21,9 +21,9 @@ use Rattle.sid.specs.declared.Tested.{Tested}
 use Rattle.sid.specs.declared.Tested.the-variants as tested
 use Rattle.sid.specs.Header.{headerOf}
 
-abbrev pub told : Reading → Outcome Header
-told (Accepted h) = accepted h
-told (Refused x) = refused (x .number) (x .place)
+abbrev pub outcomeOfTune : Reading → Outcome Header
+outcomeOfTune (Accepted h) = accepted h
+outcomeOfTune (Refused x) = refused (x .number) (x .place)
 
 unfoldable pub sidOutcome : List ℕ → Outcome Header
 sidOutcome f = guarded (firstOf (sidTests f)) (accepted (headerOf f (fieldsOf f) (payloadOf f (fieldsOf f))))
@@ -35,9 +35,9 @@ pub record Passing : Type 0 where
 abbrev pub passing : Fields → Payload → Passing
 passing x p = record { fields = x; payload = p }
 
-abbrev pub toldTested : Tested → Outcome Passing
-toldTested (tested.Passed x p) = accepted (passing x p)
-toldTested (tested.Refused x) = refused (x .number) (x .place)
+abbrev pub outcomeOfTested : Tested → Outcome Passing
+outcomeOfTested (tested.Passed x p) = accepted (passing x p)
+outcomeOfTested (tested.Refused x) = refused (x .number) (x .place)
 
 unfoldable pub testedOutcome : List ℕ → Outcome Passing
 testedOutcome f = guarded (firstOf (sidTests f)) (accepted (passing (fieldsOf f) (payloadOf f (fieldsOf f))))

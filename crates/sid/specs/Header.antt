@@ -1,9 +1,9 @@
 -- Document 01, 'PSID and RSID', and source 003: what an accepted file says of itself.
--- kindOf     the magic by name
--- startOf    'Start song 0 reads as 1'
--- textAt     'A text is its first 31 bytes, cut before the first zero among them'
--- spanAt     where the text at an offset lies
--- headerOf   the header, with the effective init and load address
+-- kindOfMagic   the magic by name
+-- startOf       'Start song 0 reads as 1'
+-- textAt        'A text is its first 31 bytes, cut before the first zero among them'
+-- spanAt        where the text at an offset lies
+-- headerOf      the header, with the effective init and load address
 use Prim.Native.Nat.{ℕ}
 use mathlib.Core.List.{List}
 use mathlib.Core.Bool.{cond}
@@ -19,8 +19,8 @@ use Rattle.sid.specs.declared.Kind.the-variants.{Psid, Rsid}
 use Rattle.fields.specs.declared.Span.{Span}
 use Rattle.sid.specs.declared.Header.{Header}
 
-abbrev pub kindOf : ℕ → Kind
-kindOf magic = cond (eqb magic rsid) Rsid Psid
+abbrev pub kindOfMagic : ℕ → Kind
+kindOfMagic magic = cond (eqb magic rsid) Rsid Psid
 
 abbrev pub startOf : ℕ → ℕ
 startOf start = cond (eqb start 0) 1 start
@@ -34,7 +34,7 @@ spanAt f at = record { from = at; len = length (textAt f at) }
 unfoldable pub headerOf : List ℕ → Fields → Payload → Header
 headerOf f x p =
     record {
-      kind = kindOf (x .magic);
+      kind = kindOfMagic (x .magic);
       version = x .version;
       load = p .load;
       init = initOf x p;

@@ -1,14 +1,14 @@
 -- A file is accepted exactly when none of 1 to 13 applies to it. Laws of reading and of the parts of an
 -- accepted file.
--- header                         what a file says of itself, accepted or not
+-- header            what a file says of itself, accepted or not
 -- none-accepted, accepted-none   'accepted exactly when no listed refusal applies'
--- told-once                      no two answers are told alike: an equation of `told` leaves the answer no
---                                freedom
--- headed-guarded, read-headed    what tests come to, with the header made, is what the call comes to
--- accepted-header                the header of an accepted file
--- accepted-fits                  its payload lies within the 65,536 cells
--- payload-whole                  its payload has as many bytes as the header says
--- text-part                      a text's span names the text
+-- tune-once         no two answers have the same outcome: an equation of `outcomeOfTune` leaves the answer no
+--                   freedom
+-- headed-guarded, read-headed   what tests come to, with the header made, is what the call comes to
+-- accepted-header   the header of an accepted file
+-- accepted-fits     its payload lies within the 65,536 cells
+-- payload-whole     its payload has as many bytes as the header says
+-- text-part         a text's span names the text
 use Prim.Native.Nat.{ℕ, _+_, _-_, _≤_}
 use mathlib.Core.Path.{_≡_, refl, sym, subst, _∙_, ap}
 use mathlib.Core.List.{List}
@@ -33,13 +33,13 @@ use Rattle.sid.specs.declared.Header.{Header}
 use Rattle.sid.specs.Header.{headerOf, textAt, spanAt}
 use Rattle.sid.specs.declared.Reading.{Reading}
 use Rattle.sid.specs.declared.Reading.the-variants.{Accepted, Refused}
-use Rattle.sid.specs.Answers.{told, sidOutcome, Passing, passing, testedOutcome, headed}
+use Rattle.sid.specs.Answers.{outcomeOfTune, sidOutcome, Passing, passing, testedOutcome, headed}
 
-pub told-once : (a b : Reading) → told a ≡ told b → a ≡ b
-told-once (Accepted g) (Accepted h) e = let same : g ≡ h = cc in rw same
-told-once (Accepted g) (Refused y) e = let z : _≡_ {A = ℕ} 0 1 = cc in absurd (omega arith)
-told-once (Refused x) (Accepted h) e = let z : _≡_ {A = ℕ} 0 1 = cc in absurd (omega arith)
-told-once (Refused x) (Refused y) e = ap Refused (refused-once {X = Header} x y e)
+pub tune-once : (a b : Reading) → outcomeOfTune a ≡ outcomeOfTune b → a ≡ b
+tune-once (Accepted g) (Accepted h) e = let same : g ≡ h = cc in rw same
+tune-once (Accepted g) (Refused y) e = let z : _≡_ {A = ℕ} 0 1 = cc in absurd (omega arith)
+tune-once (Refused x) (Accepted h) e = let z : _≡_ {A = ℕ} 0 1 = cc in absurd (omega arith)
+tune-once (Refused x) (Refused y) e = ap Refused (refused-once {X = Header} x y e)
 
 pub headed-guarded : (f : List ℕ) (v : Verdict) (o : Outcome Passing) → headed f (guarded v o) ≡ guarded v (headed f o)
 headed-guarded f Passed o = refl

@@ -1,6 +1,6 @@
 // The header of a file that no test refuses.
 ghost use mathlib.Core.Path.{_≡_};
-ghost use Rattle.sid.specs.Header.{kindOf, startOf, spanAt, headerOf};
+ghost use Rattle.sid.specs.Header.{kindOfMagic, startOf, spanAt, headerOf};
 use crate::Header;
 use crate::Kind;
 use fields::Span;
@@ -9,7 +9,7 @@ use sidheader::Payload;
 
 // What the magic says the file is, once it is known to be one of the two.
 fn kind_of(magic: u32) -> Kind
-    ensures { λ r. ⌜ r ≡ kindOf magic ⌝ }
+    ensures { λ r. ⌜ r ≡ kindOfMagic magic ⌝ }
 {
     if magic == sidheader::RSID {
         Kind::Rsid

@@ -1,7 +1,7 @@
 // PSID and RSID files, versions 1 and 2, read: tested, and what an accepted file says of itself. Every call
 // answers for every file; none has a requires.
 ghost use mathlib.Core.Path.{_≡_};
-ghost use Rattle.sid.specs.Answers.{told, sidOutcome, toldTested, testedOutcome};
+ghost use Rattle.sid.specs.Answers.{outcomeOfTune, sidOutcome, outcomeOfTested, testedOutcome};
 use fields::Span;
 use refusals::Refusal;
 use refusals::Verdict;
@@ -55,7 +55,7 @@ pub enum Tested {
 
 // internal: tests a file, and does not look for the ends of its texts: only the header needs them.
 pub fn test(file: &[u8]) -> Tested
-    ensures { λ r. ⌜ toldTested r ≡ testedOutcome (now (file .entry)) ⌝ }
+    ensures { λ r. ⌜ outcomeOfTested r ≡ testedOutcome (now (file .entry)) ⌝ }
 {
     // the first test by itself: past it the compiler knows that the header is there, and leaves out a check
     // at each byte
@@ -79,7 +79,7 @@ pub fn test(file: &[u8]) -> Tested
 
 // Reads a file: its header, or the first refusal that applies.
 pub fn read(file: &[u8]) -> Reading
-    ensures { λ r. ⌜ told r ≡ sidOutcome (now (file .entry)) ⌝ }
+    ensures { λ r. ⌜ outcomeOfTune r ≡ sidOutcome (now (file .entry)) ⌝ }
 {
     // as in test: past it the compiler knows that the texts are there, and unrolls the search for their ends
     if file.len() < SHORTEST {

@@ -13,7 +13,7 @@ use Rattle.fields.specs.Laws.{length-before}
 use Rattle.refusals.specs.Numbers.Outcome.{accepted}
 use Rattle.sidheader.specs.declared.Fields.{Fields}
 use Rattle.sidheader.specs.Fields.{fieldsOf}
-use Rattle.sidheader.specs.Payload.{addressed, after, whole, payloadOf}
+use Rattle.sidheader.specs.Payload.{addressed, afterAddress, wholeData, payloadOf}
 use Rattle.sidrefusals.specs.HeaderTests.{isRsid}
 use Rattle.sidrefusals.specs.PayloadTests.{sidTests}
 use Rattle.sid.specs.declared.Header.{Header}
@@ -55,6 +55,6 @@ narrow-header f h e =
       payload = record { from = go (addressed x) low; len = omega arith };
     }
   where
-    go : (b : Bool) → fieldsOf f .offset ≤ 0x7C → cond b (after f (fieldsOf f)) (whole (fieldsOf f)) .from ≤ 65538
+    go : (b : Bool) → fieldsOf f .offset ≤ 0x7C → cond b (afterAddress f (fieldsOf f)) (wholeData (fieldsOf f)) .from ≤ 65538
     go true l = omega arith
     go false l = omega arith

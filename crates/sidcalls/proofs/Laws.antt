@@ -1,5 +1,5 @@
--- Each call of a PSID or RSID file tells a value from a refusal (`Told`).
--- read-told, fields-told, load-told, speed-told   so for tt_sid_read, _fields, _load and _speed
+-- Each call of a PSID or RSID file tells a value from a refusal (`Apart`).
+-- read-apart, fields-apart, load-apart, speed-apart   so for tt_sid_read, _fields, _load and _speed
 use Prim.Native.Nat.{ℕ, _<_}
 use mathlib.Core.Path.{_≡_}
 use mathlib.Core.Bool.{_||_}
@@ -17,23 +17,23 @@ use Rattle.sid.specs.Answers.{sidOutcome}
 use Rattle.sidload.specs.Loading.{loadOutcome}
 use Rattle.sidspeed.specs.Speed.{speedBit, songSpeed, speedOutcome}
 use Rattle.answers.specs.Answers.{noValue}
-use Rattle.answers.specs.Told.{Told, low-told}
+use Rattle.answers.specs.Apart.{Apart, low-apart}
 use Rattle.sidcalls.specs.Lists.{headerNumbers}
 use Rattle.sidcalls.proofs.Places.{sid-low, load-low, speed-low}
 
 module _ (f : List ℕ) where
-  pub read-told : Told noValue (sidOutcome f)
-  read-told = low-told noValue (sidOutcome f) (λ h e. lit< tt) (sid-low f)
+  pub read-apart : Apart noValue (sidOutcome f)
+  read-apart = low-apart noValue (sidOutcome f) (λ h e. lit< tt) (sid-low f)
 
-  pub fields-told : Told (λ h. length (headerNumbers h)) (sidOutcome f)
-  fields-told = low-told (λ h. length (headerNumbers h)) (sidOutcome f) (λ h e. lit< tt) (sid-low f)
+  pub fields-apart : Apart (λ h. length (headerNumbers h)) (sidOutcome f)
+  fields-apart = low-apart (λ h. length (headerNumbers h)) (sidOutcome f) (λ h e. lit< tt) (sid-low f)
 
-  pub load-told : (cells : ℕ) → Told noValue (loadOutcome f cells)
-  load-told cells = low-told noValue (loadOutcome f cells) (λ h e. lit< tt) (load-low f cells)
+  pub load-apart : (cells : ℕ) → Apart noValue (loadOutcome f cells)
+  load-apart cells = low-apart noValue (loadOutcome f cells) (λ h e. lit< tt) (load-low f cells)
 
-  pub speed-told : (song : ℕ) → Told (λ bit. bit) (speedOutcome f song)
+  pub speed-apart : (song : ℕ) → Apart (λ bit. bit) (speedOutcome f song)
   unfolding speedOutcome speedBit
-  speed-told song = low-told (λ bit. bit) (speedOutcome f song) (λ bit e. bit-low (sidOutcome f) bit e) (speed-low f song)
+  speed-apart song = low-apart (λ bit. bit) (speedOutcome f song) (λ bit e. bit-low (sidOutcome f) bit e) (speed-low f song)
     where
       bit-low : (o : Outcome Header) (bit : ℕ) → songSpeed o song ≡ accepted bit → bit < 0x100000000
       bit-low (accepted h) bit e =

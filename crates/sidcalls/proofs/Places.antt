@@ -16,7 +16,7 @@ use Rattle.sid.specs.Header.{headerOf}
 use Rattle.sid.specs.Answers.{sidOutcome}
 use Rattle.sidload.specs.Loading.{loadOutcome}
 use Rattle.sidspeed.specs.Speed.{speedBit, songSpeed, speedOutcome}
-use Rattle.answers.specs.Told.{Low, tests-low}
+use Rattle.answers.specs.Apart.{Low, tests-low}
 
 pub sid-low : (f : List ℕ) → Low (sidOutcome f)
 unfolding sidOutcome

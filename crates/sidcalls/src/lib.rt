@@ -5,10 +5,10 @@ ghost use lib.ListN.{length};
 ghost use Rattle.sid.specs.Answers.{sidOutcome};
 ghost use Rattle.sidload.specs.Loading.{loadOutcome, memoryAfter};
 ghost use Rattle.sidspeed.specs.Speed.{speedOutcome};
-ghost use Rattle.answers.specs.Answers.{packed, noValue, cellsAfter};
+ghost use Rattle.answers.specs.Answers.{packed, noValue, listAfter};
 ghost use Rattle.sidcalls.specs.Lists.{headerNumbers};
-use sidspeed::SongSpeed;
 use sid::Tested;
+use sidspeed::SongSpeed;
 
 mod tunes;
 
@@ -25,7 +25,7 @@ pub fn read(file: &[u8]) -> u64
 // internal: the body of tt_sid_fields.
 pub fn fields(file: &[u8], out: &mut [u32]) -> u64
     ensures answer { λ r. ⌜ r ≡ packed (λ h. length (headerNumbers h)) (sidOutcome (now (file .entry))) ⌝ }
-    ensures cells { λ _. ⌜ now (out .exit) ≡ cellsAfter headerNumbers (sidOutcome (now (file .entry))) (now (out .entry)) ⌝ }
+    ensures cells { λ _. ⌜ now (out .exit) ≡ listAfter headerNumbers (sidOutcome (now (file .entry))) (now (out .entry)) ⌝ }
 {
     match sid::read(file) {
         sid::Reading::Refused(x) => answers::refused(x),

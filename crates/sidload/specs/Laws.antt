@@ -20,7 +20,7 @@ use Rattle.fields.specs.Laws.{length-put}
 use Rattle.sid.specs.declared.Header.{Header}
 use Rattle.sid.specs.Answers.{sidOutcome, Passing, testedOutcome, headed}
 use Rattle.sid.specs.Laws.{headed-guarded, read-headed, accepted-fits}
-use Rattle.sidload.specs.Loading.{loadOutcome, putOutcome, filled, memoryAfter}
+use Rattle.sidload.specs.Loading.{loadOutcome, putOutcome, memoryWith, memoryAfter}
 
 pub load-headed : (f : List ℕ) (cells : ℕ) (o : Outcome Passing) → o ≡ putOutcome f cells → headed f o ≡ loadOutcome f cells
 unfolding putOutcome loadOutcome
@@ -36,7 +36,7 @@ pub memory-length : (f m : List ℕ) → length (memoryAfter f m) ≡ length m
 unfolding memoryAfter loadOutcome
 memory-length f m = cases (eqb (length m) 65536) (λ p. rw p (go (eqb-true (length m) 65536 p) (sidOutcome f) refl)) (λ p. rw p)
   where
-    go : length m ≡ 65536 → (o : Outcome Header) → sidOutcome f ≡ o → length (filled o f m) ≡ length m
+    go : length m ≡ 65536 → (o : Outcome Header) → sidOutcome f ≡ o → length (memoryWith o f m) ≡ length m
     go size (refused n place) e = refl
     go size (accepted h) e =
         length-put m (h .load) (partOf f (h .payload))

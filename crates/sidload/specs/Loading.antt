@@ -2,7 +2,7 @@
 -- loadOutcome   '40, 41 and 42 are tested before the file': 40 where memory is not 65,536 bytes, then the
 --               file's own
 -- putOutcome    the same with the fields and the payload that the header is made of
--- filled        what an outcome puts into memory
+-- memoryWith    what an outcome puts into memory
 -- memoryAfter   'Loading leaves every cell but the payload's as it stood'; a refusal 'changes no lent memory'
 use Prim.Native.Nat.{ℕ}
 use mathlib.Core.Bool.{not}
@@ -23,9 +23,9 @@ loadOutcome f cells = guarded (firstOf (test memorySize (not (eqb cells 65536)) 
 unfoldable pub putOutcome : List ℕ → ℕ → Outcome Passing
 putOutcome f cells = guarded (firstOf (test memorySize (not (eqb cells 65536)) ∷ [])) (testedOutcome f)
 
-abbrev pub filled : Outcome Header → List ℕ → List ℕ → List ℕ
-filled (accepted h) f m = put m (h .load) (partOf f (h .payload))
-filled (refused n place) f m = m
+abbrev pub memoryWith : Outcome Header → List ℕ → List ℕ → List ℕ
+memoryWith (accepted h) f m = put m (h .load) (partOf f (h .payload))
+memoryWith (refused n place) f m = m
 
 unfoldable pub memoryAfter : List ℕ → List ℕ → List ℕ
-memoryAfter f m = filled (loadOutcome f (length m)) f m
+memoryAfter f m = memoryWith (loadOutcome f (length m)) f m

@@ -1,4 +1,4 @@
--- What is said of some page of a range, told by the ends of ranges. Assumes nothing.
+-- What holds of some page of a range, by the ends of ranges. Assumes nothing.
 -- Some, any-true, true-any   some page passes a test exactly when there is such a page
 -- any-between                two ranges have a page in common
 -- any-or, any-and            one of two tests passes; a test beside a fact
@@ -14,7 +14,7 @@ use Rattle.logic.specs.Cases.{cases}
 use Rattle.logic.specs.Truth.{both-left, both-right}
 use Rattle.sidheader.specs.declared.Payload.{Payload}
 use Rattle.sidrefusals.specs.Pages.{anyPage, between, touched, reservedPage}
-use Rattle.sidrefusals.proofs.Tests.{same, both}
+use Rattle.sidrefusals.proofs.Tests.{and-same, and-true}
 
 -- a page of the count from start on that passes t
 pub record Some (start count : ℕ) (t : ℕ → Bool) : Type 0 where
@@ -43,7 +43,7 @@ true-any start (suc count) t n l h p =
 
 pub any-between : (start count first last : ℕ)
     → not (eqb count 0) && leb first last && leb start last && ltb first (start + count) ≡ anyPage start count (between first last)
-any-between start count first last = same _ _ there back
+any-between start count first last = and-same _ _ there back
   where
     there : not (eqb count 0) && leb first last && leb start last && ltb first (start + count) ≡ true → anyPage start count (between first last) ≡ true
     there e =
@@ -54,7 +54,7 @@ any-between start count first last = same _ _ there back
         let reach = leb-true start last (both-right (not (eqb count 0) && leb first last) (leb start last) e₂) in
         let past = ltb-true first (start + count) (both-right (not (eqb count 0) && leb first last && leb start last) (ltb first (start + count)) e) in
         true-any start count (between first last) (max start first) (omega arith) (omega arith)
-        (both (le-leb first (max start first) (omega arith)) (le-leb (max start first) last (omega arith)))
+        (and-true (le-leb first (max start first) (omega arith)) (le-leb (max start first) last (omega arith)))
 
     back : anyPage start count (between first last) ≡ true → not (eqb count 0) && leb first last && leb start last && ltb first (start + count) ≡ true
     back e =
@@ -63,7 +63,7 @@ any-between start count first last = same _ _ there back
         let high = leb-true (s .page) last (both-right (leb first (s .page)) (leb (s .page) last) (s .passes)) in
         let none : count ≡ 0 → ⊥ = omega (arith, s .low, s .high) in
         let some : not (eqb count 0) ≡ true = rw (ne-eqb count 0 none) in
-        both (both (both some (le-leb first last (omega arith))) (le-leb start last (omega (arith, s .low))))
+        and-true (and-true (and-true some (le-leb first last (omega arith))) (le-leb start last (omega (arith, s .low))))
         (lt-ltb first (start + count) (omega (arith, s .high)))
 
 exchange : (a b c d : Bool) → a || b || (c || d) ≡ a || c || (b || d)
@@ -104,7 +104,7 @@ pub byte-touched : (p : Payload) (n : ℕ) → Byte p n → touched p n ≡ true
 byte-touched p n b =
     let low : p .load / 256 ≤ n = omega (arith, b .low, b .page) in
     let high : n ≤ (p .load + p .len - 1) / 256 = omega (arith, b .high, b .page) in
-    both (le-leb (p .load / 256) n low) (le-leb n ((p .load + p .len - 1) / 256) high)
+    and-true (le-leb (p .load / 256) n low) (le-leb n ((p .load + p .len - 1) / 256) high)
 
 pub touched-byte : (p : Payload) (n : ℕ) → 0 < p .len → touched p n ≡ true → Byte p n
 touched-byte p n some e =

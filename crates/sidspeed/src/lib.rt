@@ -1,7 +1,7 @@
 // The speed of a song of a PSID or RSID file. The call answers for every file and number; it has no requires.
 ghost use mathlib.Core.Path.{_≡_};
 ghost use Prim.Native.Nat.{_-_, min};
-ghost use Rattle.sidspeed.specs.Speed.{toldSpeed, speedBit, speedOutcome};
+ghost use Rattle.sidspeed.specs.Speed.{outcomeOfSpeed, speedBit, speedOutcome};
 use refusals::Refusal;
 use sid::Tested;
 
@@ -34,7 +34,7 @@ fn speed_bit(field: u32, song: u64) -> u32
 
 // The speed bit of a song, counted from 1.
 pub fn speed_of_song(file: &[u8], song: u64) -> SongSpeed
-    ensures { λ r. ⌜ toldSpeed r ≡ speedOutcome (now (file .entry)) song ⌝ }
+    ensures { λ r. ⌜ outcomeOfSpeed r ≡ speedOutcome (now (file .entry)) song ⌝ }
 {
     let answer = sid::test(file);
     match answer {

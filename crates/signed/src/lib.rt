@@ -1,5 +1,5 @@
-// Where unsigned numbers become signed ones and signed ones come apart again, for crates of ours. All other code of the
-// pairs stays with unsigned numbers.
+// Where unsigned numbers become signed ones and signed ones come apart again. Internal: for our other crates.
+// All other code of the pairs stays with unsigned numbers.
 ghost use mathlib.Core.Path.{_≡_};
 ghost use lib.IntN.{subℕ};
 ghost use Rattle.signed.specs.Signs.{partsOf};

@@ -1,10 +1,12 @@
--- Document 01, 'A pair', 'Signed' read backwards: the two bytes of a signed value, or 43. A value comes as its sign and its size.
--- slotOf       a value of -below to above as an unsigned number: a negative one is taken from the whole
--- ofSlot, signedByte   'P-S, F-S, AUT whole byte; SCA -7 to 7'
--- jif          'ten bits', -200 to 757
--- dtnOf, dtn   '11 bits, less 2,048 when bit 4 is set'
--- tpsOf, tps   'TPS by 004', zero 0E
--- rtpOf, rtp   'RTP with octaves and remainder of one sign, zero 5B'
+-- Document 01, 'A pair', 'Signed' read backwards: the two bytes of a signed value, or 43. A value comes as
+-- its sign and its size.
+-- slotOf                  a value of -below to above as an unsigned number: a negative one is taken from the
+--                         whole
+-- ofSlot, spelledSigned   'P-S, F-S, AUT whole byte; SCA -7 to 7'
+-- jif                     'ten bits', -200 to 757
+-- dtnOf, dtn              '11 bits, less 2,048 when bit 4 is set'
+-- tpsOf, tps              'TPS by 004', zero 0E
+-- rtpOf, rtp              'RTP with octaves and remainder of one sign, zero 5B'
 use Prim.Native.Nat.{ℕ, _+_, _*_, _-_, _/_, _%_}
 use mathlib.Core.Bool.{cond}
 use lib.Dec.{leb, ltb}
@@ -27,8 +29,8 @@ abbrev pub ofSlot : (ℕ → Outcome Bytes) → Slot → Outcome Bytes
 ofSlot f (In n) = f n
 ofSlot f Out = noBytes
 
-abbrev pub signedByte : ℕ → ℤ → ℕ → ℕ → Outcome Bytes
-signedByte first v below above = ofSlot (λ n. alone first n 255) (slotOf (partsOf v) below above 256)
+abbrev pub spelledSigned : ℕ → ℤ → ℕ → ℕ → Outcome Bytes
+spelledSigned first v below above = ofSlot (λ n. alone first n 255) (slotOf (partsOf v) below above 256)
 
 abbrev pub jif : ℤ → Outcome Bytes
 jif v = ofSlot (λ n. joined n 1023 0x3E 64) (slotOf (partsOf v) 200 757 1024)

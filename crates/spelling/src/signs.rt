@@ -2,8 +2,8 @@
 ghost use mathlib.Core.Path.{_≡_};
 ghost use Prim.Native.Nat.{_≤_};
 ghost use Rattle.signed.specs.Signs.{partsOf};
-ghost use Rattle.meaning.specs.Answers.{toldBytes};
-ghost use Rattle.spelling.specs.Signs.{slotOf, dtnOf, tpsOf, rtpOf, signedByte, jif, dtn, tps, rtp};
+ghost use Rattle.meaning.specs.Answers.{outcomeOfBytes};
+ghost use Rattle.spelling.specs.Signs.{slotOf, dtnOf, tpsOf, rtpOf, spelledSigned, jif, dtn, tps, rtp};
 use meaning::Spelling;
 use signed::Parts;
 
@@ -45,7 +45,7 @@ fn slot_of(v: i32, below: u16, above: u16, whole: u16) -> Slot
 // internal: P-S, F-S, AUT and SCA.
 pub fn signed_byte(first: u8, v: i32, below: u16, above: u16) -> Spelling
     requires { ⌜ below ≤ 256 ⌝ }
-    ensures { λ r. ⌜ toldBytes r ≡ signedByte first v below above ⌝ }
+    ensures { λ r. ⌜ outcomeOfBytes r ≡ spelledSigned first v below above ⌝ }
 {
     let slot = slot_of(v, below, above, 256);
     match slot {
@@ -56,7 +56,7 @@ pub fn signed_byte(first: u8, v: i32, below: u16, above: u16) -> Spelling
 
 // internal: JIF.
 pub fn jif(v: i32) -> Spelling
-    ensures { λ r. ⌜ toldBytes r ≡ jif v ⌝ }
+    ensures { λ r. ⌜ outcomeOfBytes r ≡ jif v ⌝ }
 {
     let slot = slot_of(v, 200, 757, 1024);
     match slot {
@@ -67,7 +67,7 @@ pub fn jif(v: i32) -> Spelling
 
 // The sign stands below the value's upper bits.
 fn dtn_of(parts: Parts) -> Spelling
-    ensures { λ r. ⌜ toldBytes r ≡ dtnOf parts ⌝ }
+    ensures { λ r. ⌜ outcomeOfBytes r ≡ dtnOf parts ⌝ }
 {
     let negative = parts.negative;
     let size = parts.size;
@@ -88,13 +88,13 @@ fn dtn_of(parts: Parts) -> Spelling
 
 // internal: DTN.
 pub fn dtn(v: i32) -> Spelling
-    ensures { λ r. ⌜ toldBytes r ≡ dtn v ⌝ }
+    ensures { λ r. ⌜ outcomeOfBytes r ≡ dtn v ⌝ }
 {
     dtn_of(signed::parts_of(v))
 }
 
 fn tps_of(parts: Parts) -> Spelling
-    ensures { λ r. ⌜ toldBytes r ≡ tpsOf parts ⌝ }
+    ensures { λ r. ⌜ outcomeOfBytes r ≡ tpsOf parts ⌝ }
 {
     let negative = parts.negative;
     let size = parts.size;
@@ -112,13 +112,13 @@ fn tps_of(parts: Parts) -> Spelling
 
 // internal: TPS.
 pub fn tps(v: i32) -> Spelling
-    ensures { λ r. ⌜ toldBytes r ≡ tps v ⌝ }
+    ensures { λ r. ⌜ outcomeOfBytes r ≡ tps v ⌝ }
 {
     tps_of(signed::parts_of(v))
 }
 
 fn rtp_of(parts: Parts) -> Spelling
-    ensures { λ r. ⌜ toldBytes r ≡ rtpOf parts ⌝ }
+    ensures { λ r. ⌜ outcomeOfBytes r ≡ rtpOf parts ⌝ }
 {
     let negative = parts.negative;
     let size = parts.size;
@@ -136,7 +136,7 @@ fn rtp_of(parts: Parts) -> Spelling
 
 // internal: RTP.
 pub fn rtp(v: i32) -> Spelling
-    ensures { λ r. ⌜ toldBytes r ≡ rtp v ⌝ }
+    ensures { λ r. ⌜ outcomeOfBytes r ≡ rtp v ⌝ }
 {
     rtp_of(signed::parts_of(v))
 }

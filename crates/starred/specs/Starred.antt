@@ -1,12 +1,15 @@
 -- Document 01, 'Sums on the bench': every starred sum is right. One table under one statement.
--- Sum       a pair and what it means; or the second byte of a note, its pitch and half-step; or the init field and the load address of
---           an RSID file and what tests 1 to 13 come to
--- pitch, note      a pitch and a note of these parts
--- header, payload  the header and the payload of an RSID file, BASIC clear, that no test but 11 and 12 can refuse at these addresses
--- tested    what tests 1 to 13 come to for that file
--- Right     what a sum says: one equation, or two of a pitch
--- starred   the table, in the paper's order; of RSID the effective init by the field, then by the load address where the field is 0
--- AllRight, right  each sum of the table is right
+-- Sum                       a pair and what it means; or the second byte of a note, its pitch and half-step;
+--                           or the init field and the load address of an RSID file and what tests 1 to 13
+--                           come to
+-- pitch, note               a pitch and a note of these parts
+-- rsidFields, rsidPayload   the header and the payload of an RSID file, BASIC clear, that no test but 11 and
+--                           12 can refuse at these addresses
+-- rsidVerdict               what tests 1 to 13 come to for that file
+-- Holds                     what a sum says: one equation, or two of a pitch
+-- starred                   the table, in the paper's order; of RSID the effective init by the field, then by
+--                           the load address where the field is 0
+-- AllHold, starred-hold     each sum of the table is right
 use Prim.Native.Nat.{ℕ}
 use mathlib.Core.Path.{_≡_, refl as ok}
 use mathlib.Core.Bool.{Bool, true, false}
@@ -52,8 +55,8 @@ pitch l a o = record { letter = l; accidental = a; octave = o }
 abbrev note : Duration → Shape → Bool → Tone → Outcome Meaning
 note d s t tone = accepted (Note (record { duration = d; shape = s; tied = t; tone = tone }))
 
-unfoldable pub header : ℕ → Fields
-header init =
+unfoldable pub rsidFields : ℕ → Fields
+rsidFields init =
     record {
       size = 130;
       magic = magic;
@@ -71,16 +74,16 @@ header init =
       reserved = 0;
     }
 
-unfoldable pub payload : ℕ → Payload
-payload load = record { load = load; from = 126; len = 4 }
+unfoldable pub rsidPayload : ℕ → Payload
+rsidPayload load = record { load = load; from = 126; len = 4 }
 
-unfoldable pub tested : ℕ → ℕ → Verdict
-tested init load = firstOf (headerTests (header init) ++ payloadTests (header init) (payload load))
+unfoldable pub rsidVerdict : ℕ → ℕ → Verdict
+rsidVerdict init load = firstOf (headerTests (rsidFields init) ++ payloadTests (rsidFields init) (rsidPayload load))
 
-abbrev pub Right : Sum → Type 0
-Right (means a b outcome) = meaningOf a b ≡ outcome
-Right (sounds b p step) = (toneOf b ≡ Sounds p) × (stepOutcome p ≡ accepted step)
-Right (rsid init load comes) = tested init load ≡ comes
+abbrev pub Holds : Sum → Type 0
+Holds (means a b outcome) = meaningOf a b ≡ outcome
+Holds (sounds b p step) = (toneOf b ≡ Sounds p) × (stepOutcome p ≡ accepted step)
+Holds (rsid init load comes) = rsidVerdict init load ≡ comes
 
 abbrev pub starred : List Sum
 starred =
@@ -108,10 +111,10 @@ starred =
     ∷ rsid 0 0xA000 (Failed 12)
     ∷ []
 
-abbrev pub AllRight : List Sum → Type 0
-AllRight [] = Unit
-AllRight (s ∷ ss) = Right s × AllRight ss
+abbrev pub AllHold : List Sum → Type 0
+AllHold [] = Unit
+AllHold (s ∷ ss) = Holds s × AllHold ss
 
-pub right : AllRight starred
-unfolding tested header payload initOf barredInit badPages anyPage
-right = (ok, ((ok, ok), (ok, (ok, (ok, (ok, (ok, (ok, (ok, (ok, (ok, ((ok, ok), ((ok, ok), (ok, (ok, (ok, (ok, (ok, (ok, (ok, (ok, (ok, tt))))))))))))))))))))))
+pub starred-hold : AllHold starred
+unfolding rsidVerdict rsidFields rsidPayload initOf barredInit badPages anyPage
+starred-hold = (ok, ((ok, ok), (ok, (ok, (ok, (ok, (ok, (ok, (ok, (ok, (ok, ((ok, ok), ((ok, ok), (ok, (ok, (ok, (ok, (ok, (ok, (ok, (ok, (ok, tt))))))))))))))))))))))

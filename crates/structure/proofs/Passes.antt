@@ -1,9 +1,9 @@
 -- The two passes over the stored pairs, a pair at a time.
--- is-last                                what the code asks for the last pair
+-- is-last                 what the code asks for the last pair
 -- pair-failed, pair-passed, plain-passed, pair-end   27 to 29
--- held, nesting, Seen, seen-start        what is open and closed so far, as the code keeps it
+-- held, nesting, Seen, seen-start   what is open and closed so far, as the code keeps it
 -- step-off, step-on, step-closes, step-few, plain-on, nest-end   30 and 31
--- number-few, none-held                  what the cells are asked for, and hold at first
+-- number-few, none-held   what the cells are asked for, and hold at first
 use Prim.Native.Nat.{ℕ, _+_, _/_, _<_, _≤_}
 use mathlib.Core.Path.{_≡_, refl, sym, _∙_, subst, fun-ext}
 use mathlib.Core.Bool.{Bool, false}
@@ -28,7 +28,7 @@ use Rattle.structure.specs.declared.Finding.the-variants.{Clear, At}
 use Rattle.structure.specs.declared.nesting.Open.{Open}
 use Rattle.structure.specs.declared.nesting.Step.{Step}
 use Rattle.structure.specs.declared.nesting.Step.the-variants.{On, Closes, Off}
-use Rattle.structure.specs.Tests.{pairTests, Nesting, nestingTests, closedAfter, after}
+use Rattle.structure.specs.Tests.{pairTests, Nesting, nestingTests, closedAfter, nestingAfter}
 use Rattle.structure.specs.Findings.{firstAt, isLast, pairsTests, nestingsTests, structureFinding}
 use Rattle.structure.proofs.Openers.{event-on}
 use Rattle.structure.specs.Steps.{openersOf, known, numberIn, Few, Moves, Stepped}
@@ -100,10 +100,10 @@ module _ (bs cells : List ℕ) (o : Open) (i : ℕ) (s : Seen bs cells o i) (h :
   nest-failed m e = sym (s .finds) ∙ rw (pairs-cons bs i h, asked-once z o (held cells) ∙ e)
 
   passed : verdict′ ≡ Passed
-      → firstAt (i + 1) (nestingsTests (after z (nesting o cells)) (drop (i + 1) (pairs bs))) ≡ structureFinding (pairs bs)
+      → firstAt (i + 1) (nestingsTests (nestingAfter z (nesting o cells)) (drop (i + 1) (pairs bs))) ≡ structureFinding (pairs bs)
   unfolding firstAt nestingsTests
   passed e =
-      let on : firstAt i (nestingsTests (nesting o cells) (drop i (pairs bs))) ≡ firstAt (i + 1) (nestingsTests (after z (nesting o cells)) (drop (i + 1) (pairs bs))) = rw (pairs-cons bs i h, asked-once z o (held cells) ∙ e) in
+      let on : firstAt i (nestingsTests (nesting o cells) (drop i (pairs bs))) ≡ firstAt (i + 1) (nestingsTests (nestingAfter z (nesting o cells)) (drop (i + 1) (pairs bs))) = rw (pairs-cons bs i h, asked-once z o (held cells) ∙ e) in
       sym on ∙ s .finds
 
   nest-on : (p : Open) → verdict′ ≡ Passed → Moves z o p → ((f : ℕ → Bool) → closedAfter z (openersOf o) f ≡ f) → Seen bs cells p (i + 1)

@@ -14,10 +14,10 @@ use Rattle.kind.specs.declared.Kind.{Kind}
 use Rattle.kind.specs.declared.Kind.the-variants.{Event, Hed, Tal, Def, End, Cal, Hlt, Bad}
 use Rattle.kind.specs.Kinds.{kindOf}
 use Rattle.bodies.specs.Bodies as bodies
-use Rattle.bodies.specs.Bodies.{Closer, byTal, byEnd, byStop, Body, done, event, repeat, phrase, call, inner, outer, joined, eventAt, bodyOf}
+use Rattle.bodies.specs.Bodies.{Closer, byTal, byEnd, byStop, Body, done, event, repeat, phrase, call, inner, outer, withPair, eventAt, bodyOf}
 use Rattle.bodies.specs.Order.{also, closes, Flat, Ordered, Shut, Sound}
 use Rattle.bodies.proofs.Phrases.{differ, flat-closes}
-use Rattle.structure.specs.Tests.{pairTests, Opener, byHed, byDef, Nesting, anyDef, any, nestingTests, openersAfter, after, start}
+use Rattle.structure.specs.Tests.{pairTests, Opener, byHed, byDef, Nesting, anyDef, any, nestingTests, openersAfter, nestingAfter, start}
 use Rattle.structure.specs.Findings.{isLast, pairsTests, nestingsTests, AllNone}
 
 -- what closes the body that was opened last
@@ -95,8 +95,8 @@ module _ (K : ℕ → Bool) (bs : List Body) where
 
 -- a pair that 30 does not refuse: from what is open after it to what is open at it
 step-chain : (e : bodies.Event) (z : Kind) (os : List Opener) (K : ℕ → Bool) (bs : List Body) → None (nestingTests z (record { openers = os; closed = K }))
-    → Chain (after z (record { openers = os; closed = K }) .closed) (openersAfter z os) bs → Chain K os (joined e z bs)
-unfolding joined
+    → Chain (nestingAfter z (record { openers = os; closed = K }) .closed) (openersAfter z os) bs → Chain K os (withPair e z bs)
+unfolding withPair
 step-chain e Event os K bs t c = event-chain K bs e os c
 step-chain e (Hed n) os K bs t c = hed-chain K bs n os c
 step-chain e Tal [] K bs t c = absurd (differ (sym (t .0)))
@@ -131,7 +131,7 @@ chain [] i o p n l = ends (o .openers) (l refl)
     ends (x ∷ os) e = absurd (differ (sym e))
 chain (m ∷ ms) i o p n l =
     step-chain (eventAt i m) (kindOf m) (o .openers) (o .closed) (bodies.bodies (i + 1) ms) (n .0)
-    (chain ms (i + 1) (after (kindOf m) o) (p .1) (n .1)
+    (chain ms (i + 1) (nestingAfter (kindOf m) o) (p .1) (n .1)
     (λ q. last-shut (kindOf m) o (subst (λ (b : Bool). None (pairTests (kindOf m) b)) q (p .0)) (n .0)))
 
 pub sound : (v : List (Outcome Meaning)) → AllNone (pairsTests v) → AllNone (nestingsTests start v) → Sound v

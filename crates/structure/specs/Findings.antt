@@ -1,11 +1,11 @@
 -- Document 01, 'MUS container': 'within a voice first 27 to 29 pair by pair (at one pair the lower number),
 -- then 30 and 31 pair by pair'.
--- foundAt, firstAt     tests pair by pair: the first that applies, with the number of its pair
--- isLast               whether no pair is left
--- pairsTests           27 to 29 for each pair of a voice
--- nestingsTests        30 and 31 for each pair, by what is open and closed there
+-- foundAt, firstAt   tests pair by pair: the first that applies, with the number of its pair
+-- isLast             whether no pair is left
+-- pairsTests         27 to 29 for each pair of a voice
+-- nestingsTests      30 and 31 for each pair, by what is open and closed there
 -- pairsFinding, structureFinding   what they come to
--- AllNone              none of the tests applies to any pair
+-- AllNone            none of the tests applies to any pair
 use Prim.Native.Nat.{ℕ, _+_}
 use mathlib.Core.Bool.{Bool, true, false}
 use mathlib.Core.List.{List, [], _∷_}
@@ -17,7 +17,7 @@ use Rattle.refusals.specs.declared.Verdict.the-variants.{Passed, Failed}
 use Rattle.kind.specs.Kinds.{kindOf}
 use Rattle.structure.specs.declared.Finding.{Finding}
 use Rattle.structure.specs.declared.Finding.the-variants.{Clear, At}
-use Rattle.structure.specs.Tests.{pairTests, Nesting, nestingTests, after, start}
+use Rattle.structure.specs.Tests.{pairTests, Nesting, nestingTests, nestingAfter, start}
 
 abbrev pub foundAt : Verdict → ℕ → Finding → Finding
 foundAt Passed i later = later
@@ -37,7 +37,7 @@ pairsTests (m ∷ ms) = pairTests (kindOf m) (isLast ms) ∷ pairsTests ms
 
 unfoldable pub nestingsTests : Nesting → List (Outcome Meaning) → List (List Test)
 nestingsTests o [] = []
-nestingsTests o (m ∷ ms) = nestingTests (kindOf m) o ∷ nestingsTests (after (kindOf m) o) ms
+nestingsTests o (m ∷ ms) = nestingTests (kindOf m) o ∷ nestingsTests (nestingAfter (kindOf m) o) ms
 
 unfoldable pub pairsFinding : List (Outcome Meaning) → Finding
 pairsFinding v = firstAt 0 (pairsTests v)

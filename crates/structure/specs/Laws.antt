@@ -1,6 +1,6 @@
 -- Laws of tests made pair by pair.
--- clear-none, none-clear            they find nothing exactly when none of them applies to any pair
--- pairs-within, structure-within    the pair that they find is one of the voice
+-- clear-none, none-clear   they find nothing exactly when none of them applies to any pair
+-- pairs-within, structure-within   the pair that they find is one of the voice
 use Prim.Native.Nat.{ℕ, suc, _+_, _<_}
 use mathlib.Core.Path.{_≡_, refl, ap}
 use mathlib.Core.List.{List, [], _∷_}
@@ -15,7 +15,7 @@ use Rattle.refusals.specs.declared.Verdict.the-variants.{Passed, Failed}
 use Rattle.structure.specs.declared.Finding.{Finding}
 use Rattle.structure.specs.declared.Finding.the-variants.{Clear, At}
 use Rattle.kind.specs.Kinds.{kindOf}
-use Rattle.structure.specs.Tests.{Nesting, after, start}
+use Rattle.structure.specs.Tests.{Nesting, nestingAfter, start}
 use Rattle.structure.specs.Findings.{foundAt, firstAt, pairsTests, nestingsTests, pairsFinding, structureFinding, AllNone}
 
 clear-both : (v : Verdict) (i : ℕ) (f : Finding) → foundAt v i f ≡ Clear → (v ≡ Passed) × (f ≡ Clear)
@@ -51,7 +51,7 @@ length-pairs-tests (m ∷ ms) = ap suc (length-pairs-tests ms)
 length-nestings-tests : (o : Nesting) (v : List (Outcome Meaning)) → length (nestingsTests o v) ≡ length v
 unfolding nestingsTests
 length-nestings-tests o [] = refl
-length-nestings-tests o (m ∷ ms) = ap suc (length-nestings-tests (after (kindOf m) o) ms)
+length-nestings-tests o (m ∷ ms) = ap suc (length-nestings-tests (nestingAfter (kindOf m) o) ms)
 
 pub pairs-within : (v : List (Outcome Meaning)) (n i : ℕ) → pairsFinding v ≡ At n i → i < length v
 unfolding pairsFinding

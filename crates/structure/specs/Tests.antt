@@ -1,19 +1,20 @@
 -- Document 01, 'MUS container' and 'Playing a voice': 27 to 31 at one pair.
--- isBad, isHlt      a pair that is refused with a number; HLT
--- misplacedHlt      'HLT before the last pair, or a last pair that isn't HLT, is 29'
--- pairTests         27 to 29, 'at one pair the lower number'
--- Opener            what a body was opened by: a HED, or a DEF with its number
--- Nesting           at a pair: the openers still open, the last one first, and the numbers closed by END
+-- isBad, isHlt            a pair that is refused with a number; HLT
+-- misplacedHlt            'HLT before the last pair, or a last pair that isn't HLT, is 29'
+-- pairTests               27 to 29, 'at one pair the lower number'
+-- Opener                  what a body was opened by: a HED, or a DEF with its number
+-- Nesting                 at a pair: the openers still open, the last one first, and the numbers closed by
+--                         END
 -- lastHed, lastDef, anyDef, any   whether the last opener still open is a HED, is a DEF; whether a DEF is
 --                                 open, whether anything is
--- misplaced         30, case by case
--- hedOfZero         'HED 0 is 31'
--- nestingTests      30 and 31
--- rest              the openers without the last one
--- openersAfter      what is open after a pair: 'TAL closes the last HED still open, END the open DEF'
+-- misplaced               30, case by case
+-- hedOfZero               'HED 0 is 31'
+-- nestingTests            30 and 31
+-- rest                    the openers without the last one
+-- openersAfter            what is open after a pair: 'TAL closes the last HED still open, END the open DEF'
 -- closedBy, closedAfter   the numbers closed after an END, and after a pair
--- after             what is open and closed after a pair
--- start             what is open and closed before the first pair: nothing
+-- nestingAfter            what is open and closed after a pair
+-- start                   what is open and closed before the first pair: nothing
 use Prim.Native.Nat.{ℕ}
 use mathlib.Core.Bool.{Bool, true, false, not, _||_, cond}
 use mathlib.Core.List.{List, [], _∷_}
@@ -139,8 +140,8 @@ closedAfter (Cal k) os closed = closed
 closedAfter Hlt os closed = closed
 closedAfter (Bad n) os closed = closed
 
-abbrev pub after : Kind → Nesting → Nesting
-after z o = record { openers = openersAfter z (o .openers); closed = closedAfter z (o .openers) (o .closed) }
+abbrev pub nestingAfter : Kind → Nesting → Nesting
+nestingAfter z o = record { openers = openersAfter z (o .openers); closed = closedAfter z (o .openers) (o .closed) }
 
 abbrev pub start : Nesting
 start = record { openers = []; closed = noneClosed }

@@ -4,8 +4,8 @@
 // without the stop, which comes where counts are joined and where a body ends.
 ghost use mathlib.Core.Path.{_≡_};
 ghost use Prim.Native.Nat.{_<_, _≤_, max};
-ghost use Rattle.tally.specs.Sums.{cap, join, none, more, passes, standing, again};
-ghost use Rattle.tally.specs.Small.{Small, Running, coded, decoded};
+ghost use Rattle.tally.specs.Sums.{cap, join, noCounts, more, passes, standing, again};
+ghost use Rattle.tally.specs.Small.{Small, Running, packedCounts, unpackedCounts};
 
 // The events and pairs walked of a body, and its depth.
 pub struct Counts {
@@ -16,7 +16,7 @@ pub struct Counts {
 
 // internal: of nothing.
 pub fn nothing() -> Counts
-    ensures { λ r. ⌜ r ≡ none ⌝ }
+    ensures { λ r. ⌜ r ≡ noCounts ⌝ }
 {
     Counts {
         events: 0,
@@ -64,7 +64,7 @@ pub fn with_event(a: Counts) -> Counts
 // internal: the counts of a body at its end, with the stop that its last events went without.
 pub fn settled(a: Counts) -> Counts
     requires { ⌜ Running a ⌝ }
-    ensures { λ r. ⌜ r ≡ join a none ⌝ }
+    ensures { λ r. ⌜ r ≡ join a noCounts ⌝ }
 {
     let rest = Counts {
         events: 0,
@@ -123,14 +123,14 @@ pub fn with_call(a: Counts, b: Counts) -> Counts
 // internal: counts in one number, for a phrase's cell.
 pub fn coded(a: Counts) -> u64
     requires { ⌜ Small a ⌝ }
-    ensures { λ r. ⌜ r ≡ coded a ⌝ }
+    ensures { λ r. ⌜ r ≡ packedCounts a ⌝ }
 {
     (a.events as u64 * 2097152 + a.walked as u64) * 32 + a.depth as u64
 }
 
 // internal: the counts that a number holds.
 pub fn decoded(x: u64) -> Counts
-    ensures { λ r. ⌜ r ≡ decoded x ⌝ }
+    ensures { λ r. ⌜ r ≡ unpackedCounts x ⌝ }
 {
     Counts {
         events: (x / 67108864 % 2097152) as u32,

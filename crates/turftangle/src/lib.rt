@@ -9,7 +9,7 @@ ghost use Rattle.mus.specs.Song.{musOutcome};
 ghost use Rattle.events.specs.Listing.{listing};
 ghost use Rattle.pair.specs.Pairs.{meaningOf};
 ghost use Rattle.codes.specs.Coding.{codeOf};
-ghost use Rattle.answers.specs.Answers.{packed, noValue, cellsAfter};
+ghost use Rattle.answers.specs.Answers.{packed, noValue, listAfter};
 ghost use Rattle.sidcalls.specs.Lists.{headerNumbers};
 ghost use Rattle.muscalls.specs.Lists.{songNumbers};
 ghost use Rattle.paircalls.specs.Written.{bytesNumber, written};
@@ -26,7 +26,7 @@ pub extern "C" fn tt_sid_read(file: &[u8]) -> u64
 #[no_mangle]
 pub extern "C" fn tt_sid_fields(file: &[u8], out: &mut [u32]) -> u64
     ensures answer { λ r. ⌜ r ≡ packed (λ h. length (headerNumbers h)) (sidOutcome (now (file .entry))) ⌝ }
-    ensures cells { λ _. ⌜ now (out .exit) ≡ cellsAfter headerNumbers (sidOutcome (now (file .entry))) (now (out .entry)) ⌝ }
+    ensures cells { λ _. ⌜ now (out .exit) ≡ listAfter headerNumbers (sidOutcome (now (file .entry))) (now (out .entry)) ⌝ }
 {
     sidcalls::fields(file, out)
 }
@@ -52,7 +52,7 @@ pub extern "C" fn tt_sid_speed(file: &[u8], song: u32) -> u64
 #[no_mangle]
 pub extern "C" fn tt_mus_accept(file: &[u8], out: &mut [u32]) -> u64
     ensures answer { λ r. ⌜ r ≡ packed (λ s. length (songNumbers s)) (musOutcome (now (file .entry))) ⌝ }
-    ensures cells { λ _. ⌜ now (out .exit) ≡ cellsAfter songNumbers (musOutcome (now (file .entry))) (now (out .entry)) ⌝ }
+    ensures cells { λ _. ⌜ now (out .exit) ≡ listAfter songNumbers (musOutcome (now (file .entry))) (now (out .entry)) ⌝ }
 {
     muscalls::accept(file, out)
 }

@@ -1,8 +1,8 @@
--- TAL and END in a walk: which body they close is told by the context, which the walk has kept.
--- differ        closers are told apart by their codes
--- top-repeat    outside calls the innermost that is kept is a repeat
--- tal-step      TAL: one pass more, or on after it
--- end-step      END: on after it where the DEF stands, or after the CAL
+-- TAL and END in a walk: the context, which the walk has kept, says which body they close.
+-- differ       no two closers have the same code
+-- top-repeat   outside calls the innermost that is kept is a repeat
+-- tal-step     TAL: one pass more, or on after it
+-- end-step     END: on after it where the DEF stands, or after the CAL
 use Prim.Native.Nat.{ℕ, _+_, _-_, _*_, _/_, _%_, _<_}
 use mathlib.Core.Path.{_≡_, refl, ap, _∙_, subst}
 use mathlib.Core.Bool.{false}
@@ -18,7 +18,7 @@ use Rattle.bodies.specs.Playing.{interpret, copies}
 use Rattle.bodies.specs.Places.{openAt, bodyAt}
 use Rattle.moves.specs.declared.Place.{Place}
 use Rattle.moves.specs.Moves.{tal, talFrames, end}
-use Rattle.walk.proofs.Contexts.{Context, outermost, repeating, standing, calling, height, inCall, Fair, Kept, Passed, eventsIn, pairsIn, later, toWalk, Here, Around, Onward, Walking, Stepped}
+use Rattle.walk.proofs.Contexts.{Context, outermost, repeating, standing, calling, height, inCall, Closed, Kept, Passed, eventsIn, pairsIn, later, toWalk, BodyFits, OuterFit, Onward, Walking, WalkingOn}
 use Rattle.walk.proofs.Steps.{kept-over, copies-more, times-more, opened}
 
 abbrev pub closerCode : Closer → ℕ
@@ -33,8 +33,8 @@ frame-left : (h l : ℕ) → l < 256 → ((h * 256 + l) % 256 ≡ l) × ((h * 25
 frame-left h l s = (omega arith, omega arith)
 
 module _ (bs : List ℕ) where
-  top-repeat : (frames : List ℕ) (c : Context) (around : List Body) → inCall c ≡ false → 0 < height c → Kept frames c → Around bs around c → 0 < getD frames (height c - 1) 0 % 256
-  unfolding Kept Around
+  top-repeat : (frames : List ℕ) (c : Context) (around : List Body) → inCall c ≡ false → 0 < height c → Kept frames c → OuterFit bs around c → 0 < getD frames (height c - 1) 0 % 256
+  unfolding Kept OuterFit
   top-repeat frames outermost around u s k a = absurd (let z : ⊥ = omega arith in z)
   top-repeat frames (repeating h l c) around u s k a =
       let here : height c + 1 - 1 ≡ height c = omega arith in
@@ -51,8 +51,8 @@ module _ (bs : List ℕ) (at depth : ℕ) (frames : List ℕ) (left : ℕ) (es :
 
   -- what holds at a pair that closes a body, by its closer
   record Shuts (d : Closer) (c : Context) : Type 0 where
-    here : Here bs (done d) c
-    around : Around bs next c
+    here : BodyFits bs (done d) c
+    around : OuterFit bs next c
     kept : Kept frames c
     deep : depth ≡ height c
     steps : left ≡ pairsIn bs (done d) + toWalk bs next c
@@ -62,8 +62,8 @@ module _ (bs : List ℕ) (at depth : ℕ) (frames : List ℕ) (left : ℕ) (es :
   shuts d q =
       let o = opened bs at (done d) next q in
       record {
-        here = subst (λ (b : Body). Here bs b (w .context)) (o .0) (w .here);
-        around = subst (λ (l : List Body). Around bs l (w .context)) (o .1) (w .around);
+        here = subst (λ (b : Body). BodyFits bs b (w .context)) (o .0) (w .here);
+        around = subst (λ (l : List Body). OuterFit bs l (w .context)) (o .1) (w .around);
         kept = w .kept;
         deep = w .deep;
         steps = w .steps ∙ rw (o .0, o .1);
@@ -71,9 +71,9 @@ module _ (bs : List ℕ) (at depth : ℕ) (frames : List ℕ) (left : ℕ) (es :
       }
 
   -- the walk goes on after this pair, or at one walked before
-  goes-on : (body at′ depth′ : ℕ) (frames′ : List ℕ) (c c′ : Context) → Onward at body c at′ c′ → Here bs (bodyAt (pairs bs) at′) c′ → Around bs (outer (openAt (pairs bs) at′)) c′ → Kept frames′ c′
+  goes-on : (body at′ depth′ : ℕ) (frames′ : List ℕ) (c c′ : Context) → Onward at body c at′ c′ → BodyFits bs (bodyAt (pairs bs) at′) c′ → OuterFit bs (outer (openAt (pairs bs) at′)) c′ → Kept frames′ c′
       → depth′ ≡ height c′ → length frames′ ≡ 16 → left ≡ 1 + (pairsIn bs (bodyAt (pairs bs) at′) + toWalk bs (outer (openAt (pairs bs) at′)) c′)
-      → es ≡ eventsIn bs (bodyAt (pairs bs) at′) ++ later bs (outer (openAt (pairs bs) at′)) c′ → Stepped bs at body c at′ depth′ frames′ (left - 1) es
+      → es ≡ eventsIn bs (bodyAt (pairs bs) at′) ++ later bs (outer (openAt (pairs bs) at′)) c′ → WalkingOn bs at body c at′ depth′ frames′ (left - 1) es
   goes-on body at′ depth′ frames′ c c′ onward here around kept deep size steps events =
       record {
         walking = record {
@@ -90,9 +90,9 @@ module _ (bs : List ℕ) (at depth : ℕ) (frames : List ℕ) (left : ℕ) (es :
       }
 
   -- TAL closes a repeat
-  tal-in : (body : ℕ) (c : Context) → Shuts byTal c → Stepped bs at body c (tal place frames .at) (tal place frames .depth) (talFrames place frames) (left - 1) es
-  unfolding Fair Around Kept Passed later toWalk interpret bodyAt copies
-  tal-in body outermost s = absurd (let z : _≡_ {A = ℕ} 2 0 = differ (s .here .fair) in omega arith)
+  tal-in : (body : ℕ) (c : Context) → Shuts byTal c → WalkingOn bs at body c (tal place frames .at) (tal place frames .depth) (talFrames place frames) (left - 1) es
+  unfolding Closed OuterFit Kept Passed later toWalk interpret bodyAt copies
+  tal-in body outermost s = absurd (let z : _≡_ {A = ℕ} 2 0 = differ (s .here .is-closed) in omega arith)
   tal-in body (repeating q l c) s = go (decLt 1 l)
     where
       level : depth - 1 ≡ height c
@@ -101,10 +101,10 @@ module _ (bs : List ℕ) (at depth : ℕ) (frames : List ℕ) (left : ℕ) (es :
       frame : getD frames (depth - 1) 0 ≡ q * 256 + l
       frame = rw level (s .kept .0)
 
-      again : Here bs (bodyAt (pairs bs) (q + 1)) (repeating q (l - 1) c)
-      again = record { fair = s .around .3 .fair; low = s .around .3 .low }
+      again : BodyFits bs (bodyAt (pairs bs) (q + 1)) (repeating q (l - 1) c)
+      again = record { is-closed = s .around .3 .is-closed; low = s .around .3 .low }
 
-      go : Dec (1 < l) → Stepped bs at body (repeating q l c) (tal place frames .at) (tal place frames .depth) (talFrames place frames) (left - 1) es
+      go : Dec (1 < l) → WalkingOn bs at body (repeating q l c) (tal place frames .at) (tal place frames .depth) (talFrames place frames) (left - 1) es
       go (yes m) =
           let a = s .around in
           rw (frame, frame-left q l (a .1) .0, frame-left q l (a .1) .1, lt-ltb 1 l m)
@@ -121,26 +121,26 @@ module _ (bs : List ℕ) (at depth : ℕ) (frames : List ℕ) (left : ℕ) (es :
           (goes-on body (at + 1) (depth - 1) frames (repeating q l c) c (λ far b n p. (omega arith, p .1)) (a .4) (a .5) (s .kept .1) level (w .frames-size)
           (s .steps ∙ rw one (omega arith))
           (s .events ∙ rw one))
-  tal-in body (standing c) s = absurd (let z : _≡_ {A = ℕ} 1 0 = differ (s .here .fair) in omega arith)
-  tal-in body (calling q c) s = absurd (let z : _≡_ {A = ℕ} 1 0 = differ (s .here .fair) in omega arith)
+  tal-in body (standing c) s = absurd (let z : _≡_ {A = ℕ} 1 0 = differ (s .here .is-closed) in omega arith)
+  tal-in body (calling q c) s = absurd (let z : _≡_ {A = ℕ} 1 0 = differ (s .here .is-closed) in omega arith)
 
   pub tal-step : openAt (pairs bs) at ≡ done byTal ∷ next → (body : ℕ)
-      → Stepped bs at body (w .context) (tal place frames .at) (tal place frames .depth) (talFrames place frames) (left - 1) es
+      → WalkingOn bs at body (w .context) (tal place frames .at) (tal place frames .depth) (talFrames place frames) (left - 1) es
   tal-step q body = tal-in body (w .context) (shuts byTal q)
 
   -- END closes a DEF where it stands, or a call
-  end-in : (body : ℕ) (c : Context) → Shuts byEnd c → Stepped bs at body c (end place frames .at) (end place frames .depth) frames (left - 1) es
-  unfolding Fair Around Kept Passed later toWalk interpret bodyAt
-  end-in body outermost s = absurd (let z : _≡_ {A = ℕ} 2 1 = differ (s .here .fair) in omega arith)
-  end-in body (repeating q l c) s = absurd (let z : _≡_ {A = ℕ} 0 1 = differ (s .here .fair) in omega arith)
+  end-in : (body : ℕ) (c : Context) → Shuts byEnd c → WalkingOn bs at body c (end place frames .at) (end place frames .depth) frames (left - 1) es
+  unfolding Closed OuterFit Kept Passed later toWalk interpret bodyAt
+  end-in body outermost s = absurd (let z : _≡_ {A = ℕ} 2 1 = differ (s .here .is-closed) in omega arith)
+  end-in body (repeating q l c) s = absurd (let z : _≡_ {A = ℕ} 0 1 = differ (s .here .is-closed) in omega arith)
   end-in body (standing c) s = go (decLt 0 (height c))
     where
-      on : Stepped bs at body (standing c) (at + 1) depth frames (left - 1) es
+      on : WalkingOn bs at body (standing c) (at + 1) depth frames (left - 1) es
       on =
           goes-on body (at + 1) depth frames (standing c) c (λ far l b p. (omega arith, p)) (s .around .1) (s .around .2) (s .kept) (s .deep) (w .frames-size)
           (omega (arith, s .steps)) (s .events)
 
-      go : Dec (0 < height c) → Stepped bs at body (standing c) (end place frames .at) (end place frames .depth) frames (left - 1) es
+      go : Dec (0 < height c) → WalkingOn bs at body (standing c) (end place frames .at) (end place frames .depth) frames (left - 1) es
       go (yes m) =
           let t : 0 < getD frames (depth - 1) 0 % 256 = rw (s .deep) (top-repeat bs frames c (outer next) (s .around .0) m (s .kept) (s .around .2)) in
           rw (lt-ltb 0 depth (omega (arith, s .deep)), ne-eqb (getD frames (depth - 1) 0 % 256) 0 (λ x. absurd (let z : ⊥ = omega arith in z))) on
@@ -153,5 +153,5 @@ module _ (bs : List ℕ) (at depth : ℕ) (frames : List ℕ) (left : ℕ) (es :
       (omega (arith, s .steps)) (s .events))
 
   pub end-step : openAt (pairs bs) at ≡ done byEnd ∷ next → (body : ℕ)
-      → Stepped bs at body (w .context) (end place frames .at) (end place frames .depth) frames (left - 1) es
+      → WalkingOn bs at body (w .context) (end place frames .at) (end place frames .depth) frames (left - 1) es
   end-step q body = end-in body (w .context) (shuts byEnd q)

@@ -1,24 +1,24 @@
 -- The middle of a walk: what is in progress around the pair that comes next, and what is still to be walked
 -- and to be played.
--- Context            the repeats, DEFs where they stand and calls in progress, innermost first: a repeat with
---                    the number of its HED and the passes that are left, this one included, a call with the
---                    number of its CAL
--- height             how many of them are repeats and calls; these the walk keeps
--- inCall, closerOf   whether a call is among them; what closes the innermost
--- Fair               a body with that closer, and in a call no DEF in it
--- shut-fair, flat-fair   from acceptance
+-- Context                      the repeats, DEFs where they stand and calls in progress, innermost first: a
+--                              repeat with the number of its HED and the passes that are left, this one
+--                              included, a call with the number of its CAL
+-- height                       how many of them are repeats and calls; these the walk keeps
+-- inCall, closerOf             whether a call is among them; what closes the innermost
+-- Closed                       a body with that closer, and in a call no DEF in it
+-- shut-closed, flat-closed     from acceptance
 -- eventsIn, pairsIn, depthIn   what a body of a voice comes to
--- later, toWalk      the events and the pairs after the body that is being walked, by the bodies that are
---                    open around it
--- Here, Around       the body that is being walked, and those around it, fit their context
--- Kept               the walk keeps the context
--- Passed             each HED and CAL in progress stands before pair far
--- Onward             a step that goes no further than the pair after this one, or to the body that a CAL is
---                    given
--- Stands, Start      a body that CAL k stands for, and the pair where such a body begins
--- Goes               a CAL is given such a pair; how it was found is not said here
--- Walking            all this at one pair of a walk, where the events es are still to come
--- Stepped            the same after a step
+-- later, toWalk                the events and the pairs after the body that is being walked, by the bodies
+--                              that are open around it
+-- BodyFits, OuterFit           the body that is being walked, and those around it, fit their context
+-- Kept                         the walk keeps the context
+-- Passed                       each HED and CAL in progress stands before pair far
+-- Onward                       a step that goes no further than the pair after this one, or to the body that
+--                              a CAL is given
+-- Stands, Start                a body that CAL k stands for, and the pair where such a body begins
+-- Goes                         a CAL is given such a pair; how it was found is not said here
+-- Walking                      all this at one pair of a walk, where the events es are still to come
+-- WalkingOn                    the same after a step
 use Prim.Native.Nat.{ℕ, _+_, _-_, _*_, _<_, _≤_}
 use mathlib.Core.Path.{_≡_, refl}
 use mathlib.Core.Bool.{Bool, true, false}
@@ -56,28 +56,28 @@ closerOf (repeating h l c) = byTal
 closerOf (standing c) = byEnd
 closerOf (calling p c) = byEnd
 
-unfoldable pub Fair : Bool → Closer → Body → Type 0
-Fair u c (done d) = c ≡ d
-Fair u c (event e r) = Fair u c r
-Fair u c (repeat n i r) = Fair u byTal i × Fair u c r
-Fair u c (phrase k i r) = (u ≡ false) × Fair u byEnd i × Fair u c r
-Fair u c (call k r) = Fair u c r
+unfoldable pub Closed : Bool → Closer → Body → Type 0
+Closed u c (done d) = c ≡ d
+Closed u c (event e r) = Closed u c r
+Closed u c (repeat n i r) = Closed u byTal i × Closed u c r
+Closed u c (phrase k i r) = (u ≡ false) × Closed u byEnd i × Closed u c r
+Closed u c (call k r) = Closed u c r
 
-pub shut-fair : (c : Closer) (b : Body) → Shut c b → Fair false c b
-unfolding Fair Shut
-shut-fair c (done d) s = s
-shut-fair c (event e r) s = shut-fair c r s
-shut-fair c (repeat n i r) s = (shut-fair byTal i (s .0), shut-fair c r (s .1))
-shut-fair c (phrase k i r) s = (refl, shut-fair byEnd i (s .0), shut-fair c r (s .1))
-shut-fair c (call k r) s = shut-fair c r s
+pub shut-closed : (c : Closer) (b : Body) → Shut c b → Closed false c b
+unfolding Closed Shut
+shut-closed c (done d) s = s
+shut-closed c (event e r) s = shut-closed c r s
+shut-closed c (repeat n i r) s = (shut-closed byTal i (s .0), shut-closed c r (s .1))
+shut-closed c (phrase k i r) s = (refl, shut-closed byEnd i (s .0), shut-closed c r (s .1))
+shut-closed c (call k r) s = shut-closed c r s
 
-pub flat-fair : (c : Closer) (b : Body) → Flat b → Shut c b → Fair true c b
-unfolding Fair Flat Shut
-flat-fair c (done d) f s = s
-flat-fair c (event e r) f s = flat-fair c r f s
-flat-fair c (repeat n i r) f s = (flat-fair byTal i (f .0) (s .0), flat-fair c r (f .1) (s .1))
-flat-fair c (phrase k i r) f s = absurd f
-flat-fair c (call k r) f s = flat-fair c r f s
+pub flat-closed : (c : Closer) (b : Body) → Flat b → Shut c b → Closed true c b
+unfolding Closed Flat Shut
+flat-closed c (done d) f s = s
+flat-closed c (event e r) f s = flat-closed c r f s
+flat-closed c (repeat n i r) f s = (flat-closed byTal i (f .0) (s .0), flat-closed c r (f .1) (s .1))
+flat-closed c (phrase k i r) f s = absurd f
+flat-closed c (call k r) f s = flat-closed c r f s
 
 unfoldable pub Kept : List ℕ → Context → Type 0
 Kept frames outermost = Unit
@@ -116,24 +116,24 @@ module _ (bs : List ℕ) where
   toWalk around (standing c) = 1 + (pairsIn (inner around) + toWalk (outer around) c)
   toWalk around (calling p c) = 1 + (pairsIn (bodyAt (pairs bs) (p + 1)) + toWalk (outer (openAt (pairs bs) (p + 1))) c)
 
-  pub record Here (b : Body) (c : Context) : Type 0 where
-    pub fair : Fair (inCall c) (closerOf c) b
+  pub record BodyFits (b : Body) (c : Context) : Type 0 where
+    pub is-closed : Closed (inCall c) (closerOf c) b
     pub low : depthIn b + height c ≤ 16
 
-  unfoldable pub Around : List Body → Context → Type 0
-  Around around outermost = Unit
-  Around around (repeating h l c) =
+  unfoldable pub OuterFit : List Body → Context → Type 0
+  OuterFit around outermost = Unit
+  OuterFit around (repeating h l c) =
       (0 < l)
       × (l < 256)
       × (outer (openAt (pairs bs) (h + 1)) ≡ around)
-      × Here (bodyAt (pairs bs) (h + 1)) (repeating h l c)
-      × Here (inner around) c
-      × Around (outer around) c
-  Around around (standing c) = (inCall c ≡ false) × Here (inner around) c × Around (outer around) c
-  Around around (calling p c) = Here (bodyAt (pairs bs) (p + 1)) c × Around (outer (openAt (pairs bs) (p + 1))) c
+      × BodyFits (bodyAt (pairs bs) (h + 1)) (repeating h l c)
+      × BodyFits (inner around) c
+      × OuterFit (outer around) c
+  OuterFit around (standing c) = (inCall c ≡ false) × BodyFits (inner around) c × OuterFit (outer around) c
+  OuterFit around (calling p c) = BodyFits (bodyAt (pairs bs) (p + 1)) c × OuterFit (outer (openAt (pairs bs) (p + 1))) c
 
   pub record Stands (k : ℕ) (b : Body) : Type 0 where
-    pub fair : Fair true byEnd b
+    pub is-closed : Closed true byEnd b
     pub events : phrasesOf playing (pairs bs) k ≡ eventsIn b
     pub steps : phrasesOf walking (pairs bs) k ≡ pairsIn b
     pub depth : phrasesOf nesting (pairs bs) k ≡ depthIn b
@@ -151,14 +151,14 @@ module _ (bs : List ℕ) where
 
   pub record Walking (at depth : ℕ) (frames : List ℕ) (left : ℕ) (es : List Event) : Type 0 where
     pub context : Context
-    pub here : Here (bodyAt (pairs bs) at) context
-    pub around : Around (outer (openAt (pairs bs) at)) context
+    pub here : BodyFits (bodyAt (pairs bs) at) context
+    pub around : OuterFit (outer (openAt (pairs bs) at)) context
     pub kept : Kept frames context
     pub deep : depth ≡ height context
     pub frames-size : length frames ≡ 16
     pub steps : left ≡ pairsIn (bodyAt (pairs bs) at) + toWalk (outer (openAt (pairs bs) at)) context
     pub events : es ≡ eventsIn (bodyAt (pairs bs) at) ++ later (outer (openAt (pairs bs) at)) context
 
-  pub record Stepped (at body : ℕ) (c : Context) (at′ depth′ : ℕ) (frames′ : List ℕ) (left′ : ℕ) (es′ : List Event) : Type 0 where
+  pub record WalkingOn (at body : ℕ) (c : Context) (at′ depth′ : ℕ) (frames′ : List ℕ) (left′ : ℕ) (es′ : List Event) : Type 0 where
     pub walking : Walking at′ depth′ frames′ left′ es′
     pub onward : Onward at body c at′ (walking .context)

@@ -1,8 +1,7 @@
 -- What acceptance has shown of a voice, pair by pair, as a walk meets it.
--- IsDef       pair h is DEF k
--- Facts       HED plays its body at least once; CAL has its DEF before it; CAL k stands for the body after
---             DEF k
--- facts       so of each voice that none of 27 to 33 refuses
+-- IsDef   pair h is DEF k
+-- Facts   HED plays its body at least once; CAL has its DEF before it; CAL k stands for the body after DEF k
+-- facts   so of each voice that none of 27 to 33 refuses
 use Prim.Native.Nat.{ℕ, zero, suc, _+_, _/_, _<_, _≤_}
 use mathlib.Core.Path.{_≡_, refl, subst}
 use mathlib.Core.Bool.{Bool, true, false}
@@ -18,18 +17,18 @@ use Rattle.kind.specs.declared.Kind.{Kind}
 use Rattle.kind.specs.declared.Kind.the-variants.{Event, Hed, Tal, Def, End, Cal, Hlt, Bad}
 use Rattle.kind.specs.Kinds.{kindOf}
 use Rattle.bodies.specs.Bodies as bodies
-use Rattle.bodies.specs.Bodies.{Closer, byTal, byEnd, Body, done, event, repeat, phrase, call, inner, outer, joined, eventAt, bodyOf}
+use Rattle.bodies.specs.Bodies.{Closer, byTal, byEnd, Body, done, event, repeat, phrase, call, inner, outer, withPair, eventAt, bodyOf}
 use Rattle.bodies.specs.Voice.{pairs, pairAt}
 use Rattle.bodies.specs.Playing.{playing, walking, nesting, phrasesOf}
 use Rattle.bodies.specs.Order.{also, closes, Ordered, Shut, Sound}
 use Rattle.bodies.specs.Places.{openAt, bodyAt}
 use Rattle.bodies.proofs.Meant.{Meant, voice-meant}
 use Rattle.bodies.proofs.Stored.{pairs-cons, open-cons}
-use Rattle.structure.specs.Tests.{Opener, byHed, byDef, Nesting, nestingTests, openersAfter, closedBy, after, start}
+use Rattle.structure.specs.Tests.{Opener, byHed, byDef, Nesting, nestingTests, openersAfter, closedBy, nestingAfter, start}
 use Rattle.structure.specs.Findings.{nestingsTests, AllNone}
 use Rattle.mus.specs.Laws.{Passes}
 use Rattle.mus.proofs.Accepted.{accepted-sound}
-use Rattle.walk.proofs.Contexts.{Stands, Start, flat-fair}
+use Rattle.walk.proofs.Contexts.{Stands, Start, flat-closed}
 
 module _ (bs : List ℕ) where
   abbrev pub IsDef : ℕ → ℕ → Type 0
@@ -68,7 +67,7 @@ module _ (bs : List ℕ) where
   closed-by i (byDef j ∷ os) K p s k e =
       cases (eqb j k) (λ q. subst (λ (x : ℕ). Before (i + 1) x) (eqb-true j k q) (before-more i j (p .0))) (λ q. before-more i k (s k (rw q at e)))
 
-  seen-step : (i : ℕ) (z : Kind) (o : Nesting) → kindOf (pairAt bs i) ≡ z → Seen i o → Seen (i + 1) (after z o)
+  seen-step : (i : ℕ) (z : Kind) (o : Nesting) → kindOf (pairAt bs i) ≡ z → Seen i o → Seen (i + 1) (nestingAfter z o)
   seen-step i Event o q s = record { shut = λ k e. before-more i k (s .shut k e); still = opened-more i (o .openers) (s .still) }
   seen-step i (Hed n) o q s = record { shut = λ k e. before-more i k (s .shut k e); still = opened-more i (o .openers) (s .still) }
   seen-step i Tal o q s = record { shut = λ k e. before-more i k (s .shut k e); still = opened-rest i (o .openers) (s .still) }
@@ -85,7 +84,7 @@ module _ (bs : List ℕ) where
     seen : Seen i nesting
 
   tested-none : (i : ℕ) → i < length bs / 2 → (t : Tested i)
-      → None (nestingTests (kindOf (pairAt bs i)) (t .nesting)) × AllNone (nestingsTests (after (kindOf (pairAt bs i)) (t .nesting)) (drop (i + 1) (pairs bs)))
+      → None (nestingTests (kindOf (pairAt bs i)) (t .nesting)) × AllNone (nestingsTests (nestingAfter (kindOf (pairAt bs i)) (t .nesting)) (drop (i + 1) (pairs bs)))
   unfolding nestingsTests AllNone
   tested-none i h t = subst (λ l. AllNone (nestingsTests (t .nesting) l)) (pairs-cons bs i h) (t .none)
 
@@ -95,7 +94,7 @@ module _ (bs : List ℕ) where
       let t = tested n i (omega arith) in
       let later = tested-none i (omega arith) t .1 in
       subst Tested (add-one i)
-      record { nesting = after (kindOf (pairAt bs i)) (t .nesting); none = later; seen = seen-step i (kindOf (pairAt bs i)) (t .nesting) refl (t .seen) }
+      record { nesting = nestingAfter (kindOf (pairAt bs i)) (t .nesting); none = later; seen = seen-step i (kindOf (pairAt bs i)) (t .nesting) refl (t .seen) }
 
   pub record Facts : Type 0 where
     pub hed : (i n : ℕ) → i < length bs / 2 → kindOf (pairAt bs i) ≡ Hed n → 0 < n
@@ -118,7 +117,7 @@ module _ (bs : List ℕ) where
   starts K c (repeat t i r) o s p w n =
       (starts K byTal i (o .0) (s .0) (p .0) (w .0) (n .0), starts (closes K i) c r (o .1) (s .1) (p .1) (w .1) (n .1))
   starts K c (phrase k i r) o s p w n = (
-    record { fair = flat-fair byEnd i (o .1) (s .0); events = p .0; steps = w .0; depth = n .0 },
+    record { is-closed = flat-closed byEnd i (o .1) (s .0); events = p .0; steps = w .0; depth = n .0 },
     starts K byEnd i (o .2) (s .0) (p .1) (w .1) (n .1),
     starts (also k K) c r (o .3) (s .1) (p .2) (w .2) (n .2),
   )
@@ -133,8 +132,8 @@ module _ (bs : List ℕ) where
   rejoined [] s a = tt
   rejoined (b ∷ l) s a = (s, a)
 
-  joined-starts : (e : bodies.Event) (z : Kind) (l : List Body) → AllStarts (joined e z l) → AllStarts l
-  unfolding joined AllStarts Starts
+  joined-starts : (e : bodies.Event) (z : Kind) (l : List Body) → AllStarts (withPair e z l) → AllStarts l
+  unfolding withPair AllStarts Starts
   joined-starts e Event l a = rejoined l (a .0) (a .1)
   joined-starts e (Hed n) l a = rejoined l (a .0 .0) (rejoined (outer l) (a .0 .1) (a .1))
   joined-starts e Tal l a = a .1
@@ -153,9 +152,9 @@ module _ (bs : List ℕ) where
 
   -- what stands after a DEF
   def-stands : (i k : ℕ) → i < length bs / 2 → kindOf (pairAt bs i) ≡ Def k → AllStarts (openAt (pairs bs) i) → Start bs k (i + 1)
-  unfolding joined AllStarts Starts bodyAt
+  unfolding withPair AllStarts Starts bodyAt
   def-stands i k h e a =
-      subst (λ (z : Kind). AllStarts (joined (eventAt i (pairAt bs i)) z (openAt (pairs bs) (i + 1)))) e (subst AllStarts (open-cons bs i h) a) .0 .0
+      subst (λ (z : Kind). AllStarts (withPair (eventAt i (pairAt bs i)) z (openAt (pairs bs) (i + 1)))) e (subst AllStarts (open-cons bs i h) a) .0 .0
 
   all-starts : Sound (pairs bs) → AllStarts (openAt (pairs bs) 0)
   unfolding openAt bodyOf AllStarts

@@ -1,6 +1,6 @@
 -- Two lists filled in step by a walk: at each pair what is filled so far, before what is still to come, is
 -- the window asked for.
--- Listing       so, of both lists
+-- ListingSoFar                 so, of both lists
 -- listing-start, listing-end   before the first pair, and when all cells are filled
 -- listing-next                 a pair comes next
 -- listing-timed, listing-room, listing-event   what an event may count on, and that it goes by
@@ -13,7 +13,7 @@ use borrow.Author.Tests.{ltb-false}
 use lib.ListN.{length, getD}
 use Rattle.kind.specs.Kinds.{kindOf}
 use Rattle.clock.specs.Lengths.{atStart, lengthOf, valuesAfter}
-use Rattle.clock.specs.Running.{jiffiesFrom, jiffies-from, Moderate, start-moderate, moderate-after, length-bound}
+use Rattle.clock.specs.Running.{jiffiesFrom, jiffies-from, ByteValues, start-byte-values, byte-values-after, length-bound}
 use Rattle.bodies.specs.Bodies as bodies
 use Rattle.bodies.specs.Voice.{pairs, pairAt}
 use Rattle.bodies.specs.Playing.{played, eventsOf, walkedOf}
@@ -38,7 +38,7 @@ use Rattle.walk.proofs.Facts.{Facts, facts}
 use Rattle.walk.proofs.Noted.{Noted, noted-start, noted-event, noted-move, noted-body}
 use Rattle.walk.proofs.Walks.{walk-start, walk-few, walk-some, walk-event, walk-ready, walk-move}
 
-pub record Listing (bs : List ℕ) (base first count : ℕ) (os₀ js₀ os js frames starts : List ℕ) (place : Place) (now : Clock) (cursor : Cursor) (left : ℕ) : Type 0 where
+pub record ListingSoFar (bs : List ℕ) (base first count : ℕ) (os₀ js₀ os js frames starts : List ℕ) (place : Place) (now : Clock) (cursor : Cursor) (left : ℕ) : Type 0 where
   pub events : List bodies.Event
   pub walk : Walking bs (place .at) (place .depth) frames left events
   pub noted : Noted bs (place .at) (walk .context) starts
@@ -48,14 +48,14 @@ pub record Listing (bs : List ℕ) (base first count : ℕ) (os₀ js₀ os js f
   pub jiffies-length : length js ≡ length js₀
   pub upto : cursor .filled ≤ count
   pub enough : count - cursor .filled ≤ length events - cursor .skip
-  pub moderate : Moderate (now .values)
+  pub byte-values : ByteValues (now .values)
   pub bounded : now .time + 172032 * length events ≤ 180388626432
   pub facts : Facts bs
   pub short : length bs ≤ 65536
   pub low : base ≤ 65536
 
 pub listing-start : (bs : List ℕ) (base first count walked : ℕ) (os js : List ℕ) → Listable bs base first count walked os js
-    → Listing bs base first count os js os js (blank 16) (blank 24) (record { at = 0; depth = 0 }) (record { time = 0; values = atStart }) (record { skip = first; filled = 0 }) walked
+    → ListingSoFar bs base first count os js os js (blank 16) (blank 24) (record { at = 0; depth = 0 }) (record { time = 0; values = atStart }) (record { skip = first; filled = 0 }) walked
 unfolding jiffiesOf eventsOf
 listing-start bs base first count walked os js l =
     let w = walk-start bs walked (l .passes) (l .steps) in
@@ -69,7 +69,7 @@ listing-start bs base first count walked os js l =
       jiffies-length = refl;
       upto = omega arith;
       enough = omega (arith, l .enough);
-      moderate = start-moderate;
+      byte-values = start-byte-values;
       bounded = omega (arith, events-walked (pairs bs), ltb-false 1048576 (walkedOf (pairs bs)) (l .passes .limits .1 .0));
       facts = facts bs (l .passes);
       short = l .short;
@@ -77,7 +77,7 @@ listing-start bs base first count walked os js l =
     }
 
 module _ {bs : List ℕ} {base first count : ℕ} {os₀ js₀ os js frames starts : List ℕ} {place : Place} {now : Clock} {cursor : Cursor} {left : ℕ}
-    (l : Listing bs base first count os₀ js₀ os js frames starts place now cursor left) where
+    (l : ListingSoFar bs base first count os₀ js₀ os js frames starts place now cursor left) where
   pub listing-end : count ≤ cursor .filled → (os ≡ filled first count (offsetsOf base (played (pairs bs))) os₀) × (js ≡ filled first count (jiffiesOf (played (pairs bs))) js₀)
   listing-end h = (
     fills-end count cursor _ os _ (l .offsets) (omega (arith, l .upto)),
@@ -104,7 +104,7 @@ module _ {bs : List ℕ} {base first count : ℕ} {os₀ js₀ os js frames star
     module _ {event : Turn} {os′ js′ : List ℕ} {cursor′ : Cursor} (bytes : (k : ℕ) → getD bs k 0 < 256) (e : nextOf (kindOf (pairAt bs (place .at))) ≡ Event)
         (t : event ≡ turnOf base (place .at) now (pairAt bs (place .at))) where
       pub listing-event : cursor′ ≡ cursorAfter cursor → os′ ≡ cellsAfter cursor (event .offset) os → js′ ≡ cellsAfter cursor (event .jiffy) js
-          → Listing bs base first count os₀ js₀ os′ js′ frames starts (record { at = place .at + 1; depth = place .depth }) (event .after) cursor′ (left - 1)
+          → ListingSoFar bs base first count os₀ js₀ os′ js′ frames starts (record { at = place .at + 1; depth = place .depth }) (event .after) cursor′ (left - 1)
       unfolding offsetsOf jiffiesFrom pairAt
       listing-event ec eo ej =
           let g = walk-event bs (place .at) (place .depth) frames left (l .events) (l .walk) (listing-next .0) e in
@@ -126,8 +126,8 @@ module _ {bs : List ℕ} {base first count : ℕ} {os₀ js₀ os js frames star
             jiffies-length = cells-length cursor _ js ∙ l .jiffies-length;
             upto = moved .0;
             enough = moved .1;
-            moderate = moderate-after values (getD bs (2 * place .at) 0) (getD bs (2 * place .at + 1) 0) (bytes (2 * place .at)) (bytes (2 * place .at + 1)) (l .moderate);
-            bounded = omega (arith, l .bounded, length-bound values m (l .moderate));
+            byte-values = byte-values-after values (getD bs (2 * place .at) 0) (getD bs (2 * place .at + 1) 0) (bytes (2 * place .at)) (bytes (2 * place .at + 1)) (l .byte-values);
+            bounded = omega (arith, l .bounded, length-bound values m (l .byte-values));
             facts = l .facts;
             short = l .short;
             low = l .low;
@@ -139,7 +139,7 @@ module _ {bs : List ℕ} {base first count : ℕ} {os₀ js₀ os js frames star
 
       pub listing-move : {body : ℕ} {place′ : Place} {frames′ starts′ : List ℕ} → body ≡ bodyIn m starts → starts′ ≡ startsAfter m (place .at) starts
           → place′ ≡ placeAfter m place body frames → frames′ ≡ framesAfter m place frames
-          → Listing bs base first count os₀ js₀ os js frames′ starts′ place′ now cursor (left - 1)
+          → ListingSoFar bs base first count os₀ js₀ os js frames′ starts′ place′ now cursor (left - 1)
       listing-move eb es ep ef =
           let goes = noted-body bs (place .at) (l .walk .context) starts (l .noted) (l .facts) (listing-next .0) m e in
           let g = walk-move bs (place .at) (place .depth) frames left (l .events) (l .walk) (l .facts) (listing-next .0) m e b (bodyIn m starts) goes in
@@ -154,7 +154,7 @@ module _ {bs : List ℕ} {base first count : ℕ} {os₀ js₀ os js frames star
             jiffies-length = l .jiffies-length;
             upto = l .upto;
             enough = l .enough;
-            moderate = l .moderate;
+            byte-values = l .byte-values;
             bounded = l .bounded;
             facts = l .facts;
             short = l .short;

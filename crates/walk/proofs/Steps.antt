@@ -1,8 +1,8 @@
 -- Each pair of a walk that opens something, and an event: what it leaves to be walked and to be played, and
 -- that the walk goes on fitting its context.
--- kept-over                what is kept stays when more is kept
--- copies-more, times-more  one copy more, one time more
--- opened                   a body and those around it, as the first pair says
+-- kept-over                 what is kept stays when more is kept
+-- copies-more, times-more   one copy more, one time more
+-- opened                    a body and those around it, as the first pair says
 -- event-step, repeat-step, phrase-step, call-step   an event, HED, DEF, CAL
 use Prim.Native.Nat.{ℕ, zero, suc, _+_, _-_, _*_, _<_, _≤_}
 use mathlib.Core.Path.{_≡_, refl, _∙_, subst}
@@ -16,7 +16,7 @@ use Rattle.bodies.specs.Voice.{pairs}
 use Rattle.bodies.specs.Bodies.{Event, Body, event, repeat, phrase, call, inner, outer}
 use Rattle.bodies.specs.Playing.{interpret, copies}
 use Rattle.bodies.specs.Places.{openAt, bodyAt}
-use Rattle.walk.proofs.Contexts.{Context, outermost, repeating, standing, calling, height, Fair, Kept, Passed, eventsIn, pairsIn, later, toWalk, Here, Around, Start, Walking, Stepped}
+use Rattle.walk.proofs.Contexts.{Context, outermost, repeating, standing, calling, height, Closed, Kept, Passed, eventsIn, pairsIn, later, toWalk, BodyFits, OuterFit, Start, Walking, WalkingOn}
 
 pub kept-over : (frames : List ℕ) (c : Context) (d x : ℕ) → height c ≤ d → Kept frames c → Kept (set frames d x) c
 unfolding Kept
@@ -43,12 +43,12 @@ module _ (bs : List ℕ) (at depth : ℕ) (frames : List ℕ) (left : ℕ) (es :
   next = openAt (pairs bs) (at + 1)
 
   abbrev Then : ℕ → ℕ → ℕ → List ℕ → List Event → Type 0
-  Then body at′ depth′ frames′ es′ = Stepped bs at body (w .context) at′ depth′ frames′ (left - 1) es′
+  Then body at′ depth′ frames′ es′ = WalkingOn bs at body (w .context) at′ depth′ frames′ (left - 1) es′
 
   -- an event goes by
   pub event-step : (x : Event) → openAt (pairs bs) at ≡ event x (inner next) ∷ outer next
       → (rest : List Event) × (es ≡ x ∷ rest) × Then 0 (at + 1) depth frames rest
-  unfolding interpret Fair bodyAt
+  unfolding interpret Closed bodyAt
   event-step x q =
       let o = opened bs at (event x (inner next)) (outer next) q in (
         eventsIn bs (inner next) ++ later bs (outer next) (w .context),
@@ -56,8 +56,8 @@ module _ (bs : List ℕ) (at depth : ℕ) (frames : List ℕ) (left : ℕ) (es :
         record {
           walking = record {
             context = w .context;
-            here = let h = subst (λ (b : Body). Here bs b (w .context)) (o .0) (w .here) in record { fair = h .fair; low = h .low };
-            around = subst (λ (l : List Body). Around bs l (w .context)) (o .1) (w .around);
+            here = let h = subst (λ (b : Body). BodyFits bs b (w .context)) (o .0) (w .here) in record { is-closed = h .is-closed; low = h .low };
+            around = subst (λ (l : List Body). OuterFit bs l (w .context)) (o .1) (w .around);
             kept = w .kept;
             deep = w .deep;
             frames-size = w .frames-size;
@@ -71,21 +71,21 @@ module _ (bs : List ℕ) (at depth : ℕ) (frames : List ℕ) (left : ℕ) (es :
   -- HED n: its body comes next, for the first of n passes
   pub repeat-step : (n : ℕ) → openAt (pairs bs) at ≡ repeat n (inner next) (inner (outer next)) ∷ outer (outer next) → 0 < n → n < 256
       → (body : ℕ) → Then body (at + 1) (depth + 1) (set frames depth (at * 256 + n)) es
-  unfolding interpret Fair bodyAt Around Kept Passed later toWalk
+  unfolding interpret Closed bodyAt OuterFit Kept Passed later toWalk
   repeat-step n q some few body =
       let o = opened bs at (repeat n (inner next) (inner (outer next))) (outer (outer next)) q in
-      let h = subst (λ (b : Body). Here bs b (w .context)) (o .0) (w .here) in
-      let a = subst (λ (l : List Body). Around bs l (w .context)) (o .1) (w .around) in
+      let h = subst (λ (b : Body). BodyFits bs b (w .context)) (o .0) (w .here) in
+      let a = subst (λ (l : List Body). OuterFit bs l (w .context)) (o .1) (w .around) in
       record {
         walking = record {
           context = repeating at n (w .context);
-          here = record { fair = h .fair .0; low = omega (arith, h .low) };
+          here = record { is-closed = h .is-closed .0; low = omega (arith, h .low) };
           around = (
             some,
             few,
             refl,
-            record { fair = h .fair .0; low = omega (arith, h .low) },
-            record { fair = h .fair .1; low = omega (arith, h .low) },
+            record { is-closed = h .is-closed .0; low = omega (arith, h .low) },
+            record { is-closed = h .is-closed .1; low = omega (arith, h .low) },
             a,
           );
           kept = (
@@ -104,16 +104,16 @@ module _ (bs : List ℕ) (at depth : ℕ) (frames : List ℕ) (left : ℕ) (es :
 
   -- DEF k: its body comes next, where it stands
   pub phrase-step : (k : ℕ) → openAt (pairs bs) at ≡ phrase k (inner next) (inner (outer next)) ∷ outer (outer next) → (body : ℕ) → Then body (at + 1) depth frames es
-  unfolding interpret Fair bodyAt Around Kept Passed later toWalk
+  unfolding interpret Closed bodyAt OuterFit Kept Passed later toWalk
   phrase-step k q body =
       let o = opened bs at (phrase k (inner next) (inner (outer next))) (outer (outer next)) q in
-      let h = subst (λ (b : Body). Here bs b (w .context)) (o .0) (w .here) in
-      let a = subst (λ (l : List Body). Around bs l (w .context)) (o .1) (w .around) in
+      let h = subst (λ (b : Body). BodyFits bs b (w .context)) (o .0) (w .here) in
+      let a = subst (λ (l : List Body). OuterFit bs l (w .context)) (o .1) (w .around) in
       record {
         walking = record {
           context = standing (w .context);
-          here = record { fair = h .fair .1; low = omega (arith, h .low) };
-          around = (h .fair .0, record { fair = h .fair .2; low = omega (arith, h .low) }, a);
+          here = record { is-closed = h .is-closed .1; low = omega (arith, h .low) };
+          around = (h .is-closed .0, record { is-closed = h .is-closed .2; low = omega (arith, h .low) }, a);
           kept = w .kept;
           deep = w .deep;
           frames-size = w .frames-size;
@@ -128,16 +128,16 @@ module _ (bs : List ℕ) (at depth : ℕ) (frames : List ℕ) (left : ℕ) (es :
   -- CAL k: the body that it stands for comes next, wherever that begins
   pub call-step : (k : ℕ) → openAt (pairs bs) at ≡ call k (inner next) ∷ outer next → (body : ℕ) → Start bs k body
       → Then body body (depth + 1) (set frames depth (at * 256 + 0)) es
-  unfolding interpret Fair bodyAt Around Kept Passed later toWalk
+  unfolding interpret Closed bodyAt OuterFit Kept Passed later toWalk
   call-step k q body n =
       let o = opened bs at (call k (inner next)) (outer next) q in
-      let h = subst (λ (b : Body). Here bs b (w .context)) (o .0) (w .here) in
-      let a = subst (λ (l : List Body). Around bs l (w .context)) (o .1) (w .around) in
+      let h = subst (λ (b : Body). BodyFits bs b (w .context)) (o .0) (w .here) in
+      let a = subst (λ (l : List Body). OuterFit bs l (w .context)) (o .1) (w .around) in
       record {
         walking = record {
           context = calling at (w .context);
-          here = record { fair = n .fair; low = omega (arith, h .low, n .depth) };
-          around = (record { fair = h .fair; low = omega (arith, h .low) }, a);
+          here = record { is-closed = n .is-closed; low = omega (arith, h .low, n .depth) };
+          around = (record { is-closed = h .is-closed; low = omega (arith, h .low) }, a);
           kept = (
             rw (w .deep) (getD-set-same frames (height (w .context)) (at * 256 + 0) 0 (omega (arith, h .low, w .frames-size))),
             kept-over frames (w .context) depth (at * 256 + 0) (omega (arith, w .deep)) (w .kept),

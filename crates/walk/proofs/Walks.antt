@@ -1,10 +1,10 @@
 -- A walk from its first pair on: all events of the played-out voice are still to come; each pair leaves one
 -- less to walk, an event one less to play.
--- kindIn, move-kind   a move by the pair that makes it
--- walk-start      before the first pair, with nothing in progress
--- few-later       no more events are to come than pairs are to be walked
--- walk-some       where an event is still to come, a pair comes next
--- walk-event      an event goes by
+-- kindIn, move-kind       a move by the pair that makes it
+-- walk-start              before the first pair, with nothing in progress
+-- few-later               no more events are to come than pairs are to be walked
+-- walk-some               where an event is still to come, a pair comes next
+-- walk-event              an event goes by
 -- walk-ready, walk-move   any other pair: what its move may count on, and where the walk goes on, a CAL at
 --                         the body that it is given
 use Prim.Native.Nat.{ℕ, _+_, _-_, _/_, _<_, _≤_}
@@ -32,7 +32,7 @@ use Rattle.moves.specs.declared.Move.the-variants.{Repeat, Phrase, Call, Tal, E
 use Rattle.moves.specs.declared.Next.the-variants.{Event, Structure}
 use Rattle.moves.specs.declared.Place.{Place}
 use Rattle.moves.specs.Moves.{nextOf, BoundedMove, Room, Ready, placeAfter, framesAfter}
-use Rattle.walk.proofs.Contexts.{Context, outermost, repeating, standing, calling, height, closerOf, Fair, shut-fair, Kept, Passed, eventsIn, pairsIn, later, toWalk, Around, Goes, Walking, Stepped}
+use Rattle.walk.proofs.Contexts.{Context, outermost, repeating, standing, calling, height, closerOf, Closed, shut-closed, Kept, Passed, eventsIn, pairsIn, later, toWalk, OuterFit, Goes, Walking, WalkingOn}
 use Rattle.walk.proofs.Facts.{Facts}
 use Rattle.walk.proofs.Steps.{event-step, repeat-step, phrase-step, call-step, opened}
 use Rattle.walk.proofs.Closing.{differ, tal-step, end-step}
@@ -66,12 +66,12 @@ move-kind z m e = go z e
 
 module _ (bs : List ℕ) where
   pub walk-start : (left : ℕ) → Passes (pairs bs) → left ≡ walkedOf (pairs bs) → (w : Walking bs 0 0 (blank 16) left (played (pairs bs))) × Passed 0 (w .context)
-  unfolding Around Kept Passed later toWalk played walkedOf depthOf openAt bodyAt bodyOf
+  unfolding OuterFit Kept Passed later toWalk played walkedOf depthOf openAt bodyAt bodyOf
   walk-start left p e =
       let s = accepted-sound (pairs bs) p in (
         record {
           context = outermost;
-          here = record { fair = shut-fair byStop (bodyOf (pairs bs)) (s .shut); low = omega (arith, ltb-false 16 (depthOf (pairs bs)) (p .limits .0)) };
+          here = record { is-closed = shut-closed byStop (bodyOf (pairs bs)) (s .shut); low = omega (arith, ltb-false 16 (depthOf (pairs bs)) (p .limits .0)) };
           around = tt;
           kept = tt;
           deep = refl;
@@ -118,11 +118,11 @@ module _ (bs : List ℕ) where
     ended (calling p c) e = absurd (let z : _≡_ {A = ℕ} 1 2 = differ e in omega arith)
 
     none-left : length bs / 2 ≤ at → es ≡ []
-    unfolding inner outer bodyAt Fair interpret
+    unfolding inner outer bodyAt Closed interpret
     none-left h =
         let q = open-end bs at h in
-        let fair : closerOf (w .context) ≡ byStop = rw q at (w .here .fair) in
-        w .events ∙ rw q (ended (w .context) fair)
+        let is-closed : closerOf (w .context) ≡ byStop = rw q at (w .here .is-closed) in
+        w .events ∙ rw q (ended (w .context) is-closed)
 
     pub walk-some : 0 < length es → at < length bs / 2
     walk-some s = go (decLt at (length bs / 2))
@@ -132,14 +132,14 @@ module _ (bs : List ℕ) where
         go (no p) = absurd (let z : length es ≡ 0 = ap length (none-left (omega arith)) in omega arith)
 
     pub walk-event : at < length bs / 2 → nextOf (kindOf (pairAt bs at)) ≡ Event
-        → (rest : List bodies.Event) × (es ≡ eventAt at (pairAt bs at) ∷ rest) × Stepped bs at 0 (w .context) (at + 1) depth frames (left - 1) rest
+        → (rest : List bodies.Event) × (es ≡ eventAt at (pairAt bs at) ∷ rest) × WalkingOn bs at 0 (w .context) (at + 1) depth frames (left - 1) rest
     walk-event i e = go (kindOf (pairAt bs at)) refl e
       where
         other : {m : Move} → Structure m ≡ Event → ⊥
         other q = let z : _≡_ {A = ℕ} 0 1 = cc in omega arith
 
         go : (z : Kind) → kindOf (pairAt bs at) ≡ z → nextOf z ≡ Event
-            → (rest : List bodies.Event) × (es ≡ eventAt at (pairAt bs at) ∷ rest) × Stepped bs at 0 (w .context) (at + 1) depth frames (left - 1) rest
+            → (rest : List bodies.Event) × (es ≡ eventAt at (pairAt bs at) ∷ rest) × WalkingOn bs at 0 (w .context) (at + 1) depth frames (left - 1) rest
         go Kind.Event q n = event-step bs at depth frames left es w _ (event-at bs at i q)
         go (Kind.Hed k) q n = absurd (other n)
         go Kind.Tal q n = absurd (other n)
@@ -160,10 +160,10 @@ module _ (bs : List ℕ) where
     some-kept (calling p c) e d = absurd (let z : _≡_ {A = ℕ} 1 0 = differ e in omega arith)
 
     tal-kept : openAt (pairs bs) at ≡ done byTal ∷ openAt (pairs bs) (at + 1) → 0 < depth
-    unfolding Fair
+    unfolding Closed
     tal-kept q =
-        let fair : closerOf (w .context) ≡ byTal = rw (opened bs at (done byTal) (openAt (pairs bs) (at + 1)) q .0) at (w .here .fair) in
-        some-kept (w .context) fair (w .deep)
+        let is-closed : closerOf (w .context) ≡ byTal = rw (opened bs at (done byTal) (openAt (pairs bs) (at + 1)) q .0) at (w .here .is-closed) in
+        some-kept (w .context) is-closed (w .deep)
 
     -- one more may be in progress
     repeat-room : (n : ℕ) (i r : Body) (rest : List Body) → openAt (pairs bs) at ≡ repeat n i r ∷ rest → depth < 16
@@ -184,7 +184,7 @@ module _ (bs : List ℕ) where
 
     -- where it leads
     moved : Facts bs → at < length bs / 2 → (m : Move) → kindOf (pairAt bs at) ≡ kindIn m → BoundedMove m → (body : ℕ) → Goes bs m body
-        → Stepped bs at body (w .context) (placeAfter m place body frames .at) (placeAfter m place body frames .depth) (framesAfter m place frames) (left - 1) es
+        → WalkingOn bs at body (w .context) (placeAfter m place body frames .at) (placeAfter m place body frames .depth) (framesAfter m place frames) (left - 1) es
     unfolding placeAfter framesAfter
     moved f i (Repeat n) e b body g = repeat-step bs at depth frames left es w n (hed-at bs at i n e) (f .hed at n i e) b body
     moved f i (Phrase k) e b body g = phrase-step bs at depth frames left es w k (def-at bs at i k e) body
@@ -199,5 +199,5 @@ module _ (bs : List ℕ) where
     walk-ready f s i m e b = record { few = omega arith; low = walk-low; room = room f i m (move-kind _ m e) b }
 
     pub walk-move : Facts bs → at < length bs / 2 → (m : Move) → nextOf (kindOf (pairAt bs at)) ≡ Structure m → BoundedMove m → (body : ℕ) → Goes bs m body
-        → Stepped bs at body (w .context) (placeAfter m place body frames .at) (placeAfter m place body frames .depth) (framesAfter m place frames) (left - 1) es
+        → WalkingOn bs at body (w .context) (placeAfter m place body frames .at) (placeAfter m place body frames .depth) (framesAfter m place frames) (left - 1) es
     walk-move f i m e b body g = moved f i m (move-kind _ m e) b body g

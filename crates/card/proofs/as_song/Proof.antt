@@ -1,23 +1,23 @@
--- `card::as_song` meets its contract: what the head and the reader answer, told.
+-- `card::as_song` meets its contract: by the outcomes of the head and of the reader.
 use mathlib.Core.Path.{sym, ap, _∙_}
 use borrow.Author.Needs.{needs}
-use Rattle.container.specs.Head.{toldHead}
+use Rattle.container.specs.Head.{outcomeOfHead}
 use Rattle.mus.specs.Song as mus
 use Rattle.card.proofs.as_song.Statement.{statement}
 use Rattle.card.proofs.as_song.Tie as tie
 
 returns : tie.Need-returns
-returns c = rw (sym (c .before .before .before .read-head .ensures) ∙ ap toldHead (c .before .x .given .1))
+returns c = rw (sym (c .before .before .before .read-head .ensures) ∙ ap outcomeOfHead (c .before .x .given .1))
 
 returns-2 : tie.Need-returns-2
 returns-2 c =
     let head = c .before .before .before .before .before .before in
-    rw (sym (head .read-head .ensures) ∙ ap toldHead (c .before .before .before .before .enum-told .given .1), sym (c .before .before .before .accept .ensures) ∙ ap mus.told (c .before .s .given .1))
+    rw (sym (head .read-head .ensures) ∙ ap outcomeOfHead (c .before .before .before .before .enum-told .given .1), sym (c .before .before .before .accept .ensures) ∙ ap mus.outcomeOfSong (c .before .s .given .1))
 
 returns-3 : tie.Need-returns-3
 returns-3 c =
     let head = c .before .before .before .before .before .before in
-    rw (sym (head .read-head .ensures) ∙ ap toldHead (c .before .before .before .before .enum-told .given .1), sym (c .before .before .before .accept .ensures) ∙ ap mus.told (c .before .x2 .given .1))
+    rw (sym (head .read-head .ensures) ∙ ap outcomeOfHead (c .before .before .before .before .enum-told .given .1), sym (c .before .before .before .accept .ensures) ∙ ap mus.outcomeOfSong (c .before .x2 .given .1))
 
 pub as-song-spec : {M : Type 1} → statement M
 as-song-spec =

@@ -1,4 +1,5 @@
--- The values behind an event are document 01's: a note sets none, and what a command sets is a law of its two bytes, a line an arm.
+-- The values after an event are document 01's: a note sets none, and what a command sets is a law of its two
+-- bytes, a line an arm.
 use borrow.Author.Tests.{ne-eqb}
 use borrow.Author.Needs.{needs}
 use Rattle.clock.specs.Lengths.{valuesAfter}

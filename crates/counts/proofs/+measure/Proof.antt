@@ -11,7 +11,7 @@ use lib.ListN.{length}
 use Rattle.bodies.specs.Places.{IsPart}
 use Rattle.bodies.proofs.part_at.Reads as part-at-reads
 use Rattle.tally.specs.Small.{Small}
-use Rattle.counts.specs.Measures.{Measures, Right}
+use Rattle.counts.specs.Measures.{Measures, MeasureHolds}
 use Rattle.counts.proofs.Readings.{Sum, sum-start, running, event-step, call-step, call-deep, repeat-step, repeat-deep, phrase-step, phrase-deep, close-end, stop-end}
 use Rattle.counts.proofs.measure.Reads as measure
 use Rattle.counts.proofs.measure.Kinds as measure-kinds
@@ -116,33 +116,33 @@ returns-2 : (t : ℕ) → lts.Need-returns-2 (claims t) (at t) measure.Post Inv-
 returns-2 t c =
     let q = c .before .before .before .before in
     let p = q .before .before .before .before in
-    let g : p .before .before .before .before .before .args .allowance - 1 < _ = subst (Right _ _ _ _ _) (c .enum-told2 .given .1) (c .before .before .measure .ensures) in
+    let g : p .before .before .before .before .before .args .allowance - 1 < _ = subst (MeasureHolds _ _ _ _ _) (c .enum-told2 .given .1) (c .before .before .measure .ensures) in
     repeat-deep (p .before .before .loop .inv) _ ((subst (IsPart _ _) (q .before .before .times .given .1) (p .part-at .ensures)) .0) (omega (arith, q .if1 .left))
 
 with-repeat-requires : (t : ℕ) → lts.Need-with-repeat-requires (claims t) (at t) measure.Post Inv-loop μ-loop
 with-repeat-requires t c κs =
     let k = c .before .before .before .before .before .before .before in
     let p = k .before .before in
-    let g : Measures _ _ _ _ (c .before .m .given .0 .0) _ = subst (Right _ _ _ _ _) (c .before .m .given .1) (c .before .before .before .measure .ensures) in
+    let g : Measures _ _ _ _ (c .before .m .given .0 .0) _ = subst (MeasureHolds _ _ _ _ _) (c .before .m .given .1) (c .before .before .before .measure .ensures) in
     (running (p .before .before .loop .inv), g .small, (subst (IsPart _ _) (k .times .given .1) (p .part-at .ensures)) .1)
 
 add-at-2 : (t : ℕ) → lts.Need-add-at-2 (claims t) (at t) measure.Post Inv-loop μ-loop
 add-at-2 t c =
     let m = c .before .before .before in
-    let g : Measures _ _ _ _ (m .m .given .0 .0) _ = subst (Right _ _ _ _ _) (m .m .given .1) (m .before .before .measure .ensures) in
+    let g : Measures _ _ _ _ (m .m .given .0 .0) _ = subst (MeasureHolds _ _ _ _ _) (m .m .given .1) (m .before .before .measure .ensures) in
     omega (arith, g .inside, m .before .before .before .before .before .before .before .before .before .before .loop .inv .short)
 
 loop-less-2 : (t : ℕ) → lts.Need-loop-less-2 (claims t) (at t) measure.Post Inv-loop μ-loop
 loop-less-2 t c =
     let m = c .before .before .before in
-    let g : Measures _ _ _ _ (m .m .given .0 .0) _ = subst (Right _ _ _ _ _) (m .m .given .1) (m .before .before .measure .ensures) in
+    let g : Measures _ _ _ _ (m .m .given .0 .0) _ = subst (MeasureHolds _ _ _ _ _) (m .m .given .1) (m .before .before .measure .ensures) in
     omega (arith, g .inside, g .later, m .before .before .before .before .before .before .before .before .before .loop-test .taken)
 
 loop-again-2 : (t : ℕ) → lts.Need-loop-again-2 (claims t) (at t) measure.Post Inv-loop μ-loop
 loop-again-2 t c =
     let m = c .before .before .before in
     let p = m .before .before .before .before .before .before .before .before in
-    let g : Measures _ _ _ _ (m .m .given .0 .0) _ = subst (Right _ _ _ _ _) (m .m .given .1) (m .before .before .measure .ensures) in
+    let g : Measures _ _ _ _ (m .m .given .0 .0) _ = subst (MeasureHolds _ _ _ _ _) (m .m .given .1) (m .before .before .measure .ensures) in
     repeat-step (p .before .before .loop .inv) _ _ _ _ ((subst (IsPart _ _) (m .before .before .before .before .before .before .times .given .1) (p .part-at .ensures)) .0) (omega (arith, m .before .before .before .before .if1 .left)) g (c .before .with-repeat .ensures)
 
 add-measure-2 : (t : ℕ) → lts.Need-add-measure-2 (claims t) (at t) measure.Post Inv-loop μ-loop
@@ -159,11 +159,11 @@ returns-3 : (t : ℕ) → lts.Need-returns-3 (claims t) (at t) measure.Post Inv-
 returns-3 t c =
     let k = c .before .before .before .before .before in
     let p = k .before .before in
-    phrase-deep (p .before .before .loop .inv) _ ((subst (IsPart _ _) (k .k .given .1) (p .part-at .ensures)) .0) (subst (Right _ _ _ _ _) (c .enum-told3 .given .1) (c .before .before .measure2 .ensures))
+    phrase-deep (p .before .before .loop .inv) _ ((subst (IsPart _ _) (k .k .given .1) (p .part-at .ensures)) .0) (subst (MeasureHolds _ _ _ _ _) (c .enum-told3 .given .1) (c .before .before .measure2 .ensures))
 
 coded-requires : (t : ℕ) → lts.Need-coded-requires (claims t) (at t) measure.Post Inv-loop μ-loop
 coded-requires t c κs =
-    let g : Measures _ _ _ _ (c .before .m2 .given .0 .0) _ = subst (Right _ _ _ _ _) (c .before .m2 .given .1) (c .before .before .before .measure2 .ensures) in
+    let g : Measures _ _ _ _ (c .before .m2 .given .0 .0) _ = subst (MeasureHolds _ _ _ _ _) (c .before .m2 .given .1) (c .before .before .before .measure2 .ensures) in
     g .small
 
 cast-cells : (t : ℕ) → lts.Need-cast-cells (claims t) (at t) measure.Post Inv-loop μ-loop
@@ -184,26 +184,26 @@ element-write-cells t c =
 with-phrase-requires : (t : ℕ) → lts.Need-with-phrase-requires (claims t) (at t) measure.Post Inv-loop μ-loop
 with-phrase-requires t c κs =
     let m = c .before .before in
-    let g : Measures _ _ _ _ (m .m2 .given .0 .0) _ = subst (Right _ _ _ _ _) (m .m2 .given .1) (m .before .before .measure2 .ensures) in
+    let g : Measures _ _ _ _ (m .m2 .given .0 .0) _ = subst (MeasureHolds _ _ _ _ _) (m .m2 .given .1) (m .before .before .measure2 .ensures) in
     (running (m .before .before .before .before .before .before .before .before .before .loop .inv), g .small)
 
 add-at-3 : (t : ℕ) → lts.Need-add-at-3 (claims t) (at t) measure.Post Inv-loop μ-loop
 add-at-3 t c =
     let m = c .before .before .before .before in
-    let g : Measures _ _ _ _ (m .m2 .given .0 .0) _ = subst (Right _ _ _ _ _) (m .m2 .given .1) (m .before .before .measure2 .ensures) in
+    let g : Measures _ _ _ _ (m .m2 .given .0 .0) _ = subst (MeasureHolds _ _ _ _ _) (m .m2 .given .1) (m .before .before .measure2 .ensures) in
     omega (arith, g .inside, m .before .before .before .before .before .before .before .before .before .loop .inv .short)
 
 loop-less-3 : (t : ℕ) → lts.Need-loop-less-3 (claims t) (at t) measure.Post Inv-loop μ-loop
 loop-less-3 t c =
     let m = c .before .before .before .before in
-    let g : Measures _ _ _ _ (m .m2 .given .0 .0) _ = subst (Right _ _ _ _ _) (m .m2 .given .1) (m .before .before .measure2 .ensures) in
+    let g : Measures _ _ _ _ (m .m2 .given .0 .0) _ = subst (MeasureHolds _ _ _ _ _) (m .m2 .given .1) (m .before .before .measure2 .ensures) in
     omega (arith, g .inside, g .later, m .before .before .before .before .before .before .before .before .loop-test .taken)
 
 loop-again-3 : (t : ℕ) → lts.Need-loop-again-3 (claims t) (at t) measure.Post Inv-loop μ-loop
 loop-again-3 t c =
     let m = c .before .before .before .before in
     let p = m .before .before .before .before .before .before .before in
-    let g : Measures _ _ _ _ (m .m2 .given .0 .0) _ = subst (Right _ _ _ _ _) (m .m2 .given .1) (m .before .before .measure2 .ensures) in
+    let g : Measures _ _ _ _ (m .m2 .given .0 .0) _ = subst (MeasureHolds _ _ _ _ _) (m .m2 .given .1) (m .before .before .measure2 .ensures) in
     phrase-step (p .before .before .loop .inv) _ _ _ _ _ ((subst (IsPart _ _) (m .before .before .before .before .before .k .given .1) (p .part-at .ensures)) .0) ((subst (IsPart _ _) (m .before .before .before .before .before .k .given .1) (p .part-at .ensures)) .1) g (c .before .before .coded .ensures) (c .before .with-phrase .ensures)
 
 cast-decoded : (t : ℕ) → lts.Need-cast-decoded (claims t) (at t) measure.Post Inv-loop μ-loop

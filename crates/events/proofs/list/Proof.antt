@@ -1,7 +1,7 @@
 -- `events::list` meets its contract: the caller's tests, then the voice, then the window.
 use borrow.Author.Needs.{needs}
 use mathlib.Core.Path.{sym, ap, _∙_}
-use Rattle.mus.specs.Voices.{toldVoice}
+use Rattle.mus.specs.Voices.{outcomeOfVoice}
 use Rattle.mus.specs.AskedLaws.{asked-in-song}
 use Rattle.events.proofs.Answers.{voice-refused, lengths-refused, voice-answered}
 use Rattle.events.proofs.list.Statement.{statement}
@@ -15,18 +15,18 @@ returns-2 c = rw (c .unplaced2 .ensures) (lengths-refused _ _ _ _ _ (c .before .
 
 list-part-requires : tie.Need-list-part-requires
 list-part-requires c κs =
-    let asked = sym (c .before .before .before .before .before .read-voice .ensures) ∙ ap toldVoice (c .before .before .before .v .given .1) in
+    let asked = sym (c .before .before .before .before .before .read-voice .ensures) ∙ ap outcomeOfVoice (c .before .before .before .v .given .1) in
     (asked-in-song _ _ _ asked, c .before .before .before .before .before .before .if2 .left)
 
 returns-3 : tie.Need-returns-3
 returns-3 c =
-    voice-answered _ _ _ _ _ (c .before .before .before .before .before .if1 .left) (c .before .before .before .before .if2 .left) _ (ap toldVoice (sym (c .before .x .given .1)) ∙ c .before .before .before .read-voice .ensures)
+    voice-answered _ _ _ _ _ (c .before .before .before .before .before .if1 .left) (c .before .before .before .before .if2 .left) _ (ap outcomeOfVoice (sym (c .before .x .given .1)) ∙ c .before .before .before .read-voice .ensures)
 
 returns-4 : tie.Need-returns-4
 returns-4 c =
     let m = c .before .before .before .before .before .before .before .before .before .before in
     c .before .before .before .before .list-part .ensures
-    ∙ voice-answered _ _ _ _ _ (m .before .before .if1 .left) (m .before .if2 .left) _ (ap toldVoice (sym (c .before .before .before .before .before .before .before .before .v .given .1)) ∙ m .read-voice .ensures)
+    ∙ voice-answered _ _ _ _ _ (m .before .before .if1 .left) (m .before .if2 .left) _ (ap outcomeOfVoice (sym (c .before .before .before .before .before .before .before .before .v .given .1)) ∙ m .read-voice .ensures)
 
 pub list-spec : {M : Type 1} → statement M
 list-spec =

@@ -6,11 +6,11 @@ use denote.Ref.{now}
 use borrow.Author.Needs.{needs}
 use Rattle.refusals.specs.Numbers.{Outcome}
 use Rattle.mus.specs.declared.Song.{Song}
-use Rattle.mus.specs.Song.{told}
-use Rattle.answers.specs.Answers.{packed, cellsAfter}
+use Rattle.mus.specs.Song.{outcomeOfSong}
+use Rattle.answers.specs.Answers.{packed, listAfter}
 use Rattle.fields.specs.Parts.{front}
 use Rattle.muscalls.specs.Lists.{songNumbers}
-use Rattle.answers.specs.Told.{Low, low-fits}
+use Rattle.answers.specs.Apart.{Low, low-fits}
 use Rattle.muscalls.proofs.Places.{mus-low}
 use Rattle.muscalls.proofs.Accepted.{narrow-song}
 use Rattle.muscalls.proofs.accept.Statement.{statement}
@@ -18,17 +18,17 @@ use Rattle.muscalls.proofs.accept.Tie as tie
 
 refused-requires : tie.Need-refused-requires
 refused-requires c κs =
-    low-fits (subst Low (sym (c .before .before .before .accept .ensures) ∙ ap told (c .before .x .given .1)) (mus-low _))
+    low-fits (subst Low (sym (c .before .before .before .accept .ensures) ∙ ap outcomeOfSong (c .before .x .given .1)) (mus-low _))
 
 song-numbers-requires : tie.Need-song-numbers-requires
 song-numbers-requires c κs =
-    narrow-song _ _ (sym (c .before .before .before .accept .ensures) ∙ ap told (c .before .s .given .1))
+    narrow-song _ _ (sym (c .before .before .before .accept .ensures) ∙ ap outcomeOfSong (c .before .s .given .1))
 
 returns : tie.Need-returns
 returns c =
     let read = c .before .before .before .before in
-    let e = ap told (sym (c .before .before .x .given .1)) ∙ read .accept .ensures in
-    (c .refused .ensures ∙ ap (packed (λ a. length (songNumbers a))) e, ap (λ (o : Outcome Song). cellsAfter songNumbers o (now (read .before .before .before .args .out))) e)
+    let e = ap outcomeOfSong (sym (c .before .before .x .given .1)) ∙ read .accept .ensures in
+    (c .refused .ensures ∙ ap (packed (λ a. length (songNumbers a))) e, ap (λ (o : Outcome Song). listAfter songNumbers o (now (read .before .before .before .args .out))) e)
 
 returns-2 : tie.Need-returns-2
 returns-2 c =
@@ -36,9 +36,9 @@ returns-2 c =
     let listed = filled .before .before .before in
     let read = listed .before .before .before .before in
     let out = now (read .before .before .before .args .out) in
-    let e = ap told (sym (listed .before .before .s .given .1)) ∙ read .accept .ensures in (
+    let e = ap outcomeOfSong (sym (listed .before .before .s .given .1)) ∙ read .accept .ensures in (
       ap (packed (λ a. length (songNumbers a))) e,
-      filled .fill .ensures ∙ ap (λ (l : List ℕ). front l out) (listed .song-numbers .ensures) ∙ ap (λ (o : Outcome Song). cellsAfter songNumbers o out) e,
+      filled .fill .ensures ∙ ap (λ (l : List ℕ). front l out) (listed .song-numbers .ensures) ∙ ap (λ (o : Outcome Song). listAfter songNumbers o out) e,
     )
 
 pub accept-spec : {M : Type 1} → statement M

@@ -1,25 +1,25 @@
 use mathlib.Core.Path.{sym, ap, _∙_, subst}
 use borrow.Author.Needs.{needs}
-use Rattle.events.specs.Listing.{Listing, told}
+use Rattle.events.specs.Listing.{Listing, outcomeOfListed}
 use Rattle.answers.specs.Answers.{packed}
-use Rattle.answers.specs.Told.{Low, low-fits}
+use Rattle.answers.specs.Apart.{Low, low-fits}
 use Rattle.muscalls.proofs.Places.{list-low}
 use Rattle.muscalls.proofs.list.Statement.{statement}
 use Rattle.muscalls.proofs.list.Tie as tie
 
 refused-requires : tie.Need-refused-requires
 refused-requires c κs =
-    low-fits (subst Low (sym (ap (λ (l : Listing). l .answer) (c .before .before .before .before .before .before .before .list .ensures)) ∙ ap told (c .before .x .given .1)) (list-low _ _ _ _ _))
+    low-fits (subst Low (sym (ap (λ (l : Listing). l .answer) (c .before .before .before .before .before .before .before .list .ensures)) ∙ ap outcomeOfListed (c .before .x .given .1)) (list-low _ _ _ _ _))
 
 returns : tie.Need-returns
 returns c =
     let e = c .before .before .before .before .before .before .before .before .list .ensures in
-    (c .refused .ensures ∙ ap (packed (λ count. count)) (ap told (sym (c .before .before .x .given .1)) ∙ ap (λ (l : Listing). l .answer) e), (ap (λ (l : Listing). l .offsets) e, ap (λ (l : Listing). l .jiffies) e))
+    (c .refused .ensures ∙ ap (packed (λ count. count)) (ap outcomeOfListed (sym (c .before .before .x .given .1)) ∙ ap (λ (l : Listing). l .answer) e), (ap (λ (l : Listing). l .offsets) e, ap (λ (l : Listing). l .jiffies) e))
 
 returns-2 : tie.Need-returns-2
 returns-2 c =
     let e = c .before .before .before .before .before .before .before .list .ensures in
-    (ap (packed (λ count. count)) (ap told (sym (c .before .count .given .1)) ∙ ap (λ (l : Listing). l .answer) e), (ap (λ (l : Listing). l .offsets) e, ap (λ (l : Listing). l .jiffies) e))
+    (ap (packed (λ count. count)) (ap outcomeOfListed (sym (c .before .count .given .1)) ∙ ap (λ (l : Listing). l .answer) e), (ap (λ (l : Listing). l .offsets) e, ap (λ (l : Listing). l .jiffies) e))
 
 pub list-spec : {M : Type 1} → statement M
 list-spec =

@@ -3,14 +3,14 @@ use Prim.Native.Nat.{ℕ, _%_}
 use mathlib.Core.Path.{_≡_, sym, ap, _∙_, subst}
 use borrow.Author.Tests.{ne-eqb}
 use borrow.Author.Needs.{needs}
-use Rattle.meaning.specs.Answers.{toldMeaning}
+use Rattle.meaning.specs.Answers.{outcomeOfMeaning}
 use Rattle.command.specs.Pair.{commandOutcome}
 use Rattle.pair.specs.Pairs.{meaningOf}
 use Rattle.codes.specs.Coding.{codeOf}
 use Rattle.codelaws.specs.Statements.{PairRefused}
 use Rattle.codelaws.proofs.Refused.{pair-refused}
 use Rattle.answers.specs.Answers.{packed}
-use Rattle.answers.specs.Told.{unplaced-fits}
+use Rattle.answers.specs.Apart.{unplaced-fits}
 use Rattle.paircalls.proofs.read.Statement.{statement}
 use Rattle.paircalls.proofs.read.Tie as tie
 
@@ -23,17 +23,17 @@ returns c = rw (c .before .before .if1 .taken, c .note-code .ensures, c .before 
 refused-requires : tie.Need-refused-requires
 refused-requires c κs =
     let a = c .before .before .before .before .before .args in
-    unplaced-fits (subst PairRefused (sym (command-meant (a .first) (a .second) (c .before .before .before .before .if1 .left)) ∙ sym (c .before .before .before .read-command .ensures) ∙ ap toldMeaning (c .before .x .given .1)) (pair-refused (a .first) (a .second)) .1)
+    unplaced-fits (subst PairRefused (sym (command-meant (a .first) (a .second) (c .before .before .before .before .if1 .left)) ∙ sym (c .before .before .before .read-command .ensures) ∙ ap outcomeOfMeaning (c .before .x .given .1)) (pair-refused (a .first) (a .second)) .1)
 
 returns-2 : tie.Need-returns-2
 returns-2 c =
     let a = c .before .before .before .before .before .before .args in
-    c .refused .ensures ∙ ap (packed codeOf) (ap toldMeaning (sym (c .before .before .x .given .1)) ∙ c .before .before .before .before .read-command .ensures ∙ command-meant (a .first) (a .second) (c .before .before .before .before .before .if1 .left))
+    c .refused .ensures ∙ ap (packed codeOf) (ap outcomeOfMeaning (sym (c .before .before .x .given .1)) ∙ c .before .before .before .before .read-command .ensures ∙ command-meant (a .first) (a .second) (c .before .before .before .before .before .if1 .left))
 
 returns-3 : tie.Need-returns-3
 returns-3 c =
     let a = c .before .before .before .before .before .before .args in
-    c .code-of .ensures ∙ ap (packed codeOf) (ap toldMeaning (sym (c .before .before .m .given .1)) ∙ c .before .before .before .before .read-command .ensures ∙ command-meant (a .first) (a .second) (c .before .before .before .before .before .if1 .left))
+    c .code-of .ensures ∙ ap (packed codeOf) (ap outcomeOfMeaning (sym (c .before .before .m .given .1)) ∙ c .before .before .before .before .read-command .ensures ∙ command-meant (a .first) (a .second) (c .before .before .before .before .before .if1 .left))
 
 pub read-spec : {M : Type 1} → statement M
 read-spec =

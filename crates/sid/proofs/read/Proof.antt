@@ -2,7 +2,7 @@
 use mathlib.Core.Path.{sym, ap, _∙_}
 use denote.Ref.{now}
 use borrow.Author.Needs.{needs}
-use Rattle.sid.specs.Answers.{toldTested}
+use Rattle.sid.specs.Answers.{outcomeOfTested}
 use Rattle.sid.specs.Laws.{read-headed}
 use Rattle.sid.proofs.Outcomes.{too-short}
 use Rattle.sid.proofs.read.Statement.{statement}
@@ -30,12 +30,12 @@ header-of-requires c κs = search needs
 
 returns-2 : tie.Need-returns-2
 returns-2 c =
-    read-headed (now (c .before .before .before .before .before .before .args .file)) _ (sym (ap toldTested (c .before .answer .given .1)) ∙ c .before .before .before .test .ensures)
+    read-headed (now (c .before .before .before .before .before .before .args .file)) _ (sym (ap outcomeOfTested (c .before .answer .given .1)) ∙ c .before .before .before .test .ensures)
 
 returns-3 : tie.Need-returns-3
 returns-3 c =
     rw (c .header-of .ensures)
-    (read-headed (now (c .before .before .before .before .before .before .before .args .file)) _ (sym (ap toldTested (c .before .before .answer2 .given .1)) ∙ c .before .before .before .before .test .ensures))
+    (read-headed (now (c .before .before .before .before .before .before .before .args .file)) _ (sym (ap outcomeOfTested (c .before .before .answer2 .given .1)) ∙ c .before .before .before .before .test .ensures))
 
 pub read-spec : {M : Type 1} → statement M
 read-spec =

@@ -6,11 +6,11 @@ use denote.Ref.{now}
 use borrow.Author.Needs.{needs}
 use Rattle.refusals.specs.Numbers.{Outcome}
 use Rattle.sid.specs.declared.Header.{Header}
-use Rattle.sid.specs.Answers.{told}
-use Rattle.answers.specs.Answers.{packed, cellsAfter}
+use Rattle.sid.specs.Answers.{outcomeOfTune}
+use Rattle.answers.specs.Answers.{packed, listAfter}
 use Rattle.fields.specs.Parts.{front}
 use Rattle.sidcalls.specs.Lists.{headerNumbers}
-use Rattle.answers.specs.Told.{Low, low-fits}
+use Rattle.answers.specs.Apart.{Low, low-fits}
 use Rattle.sidcalls.proofs.Places.{sid-low}
 use Rattle.sidcalls.proofs.Accepted.{narrow-header}
 use Rattle.sidcalls.proofs.fields.Statement.{statement}
@@ -18,17 +18,17 @@ use Rattle.sidcalls.proofs.fields.Tie as tie
 
 refused-requires : tie.Need-refused-requires
 refused-requires c κs =
-    low-fits (subst Low (sym (c .before .before .before .read .ensures) ∙ ap told (c .before .x .given .1)) (sid-low _))
+    low-fits (subst Low (sym (c .before .before .before .read .ensures) ∙ ap outcomeOfTune (c .before .x .given .1)) (sid-low _))
 
 header-numbers-requires : tie.Need-header-numbers-requires
 header-numbers-requires c κs =
-    narrow-header _ _ (sym (c .before .before .before .read .ensures) ∙ ap told (c .before .h .given .1))
+    narrow-header _ _ (sym (c .before .before .before .read .ensures) ∙ ap outcomeOfTune (c .before .h .given .1))
 
 returns : tie.Need-returns
 returns c =
     let read = c .before .before .before .before in
-    let e = ap told (sym (c .before .before .x .given .1)) ∙ read .read .ensures in
-    (c .refused .ensures ∙ ap (packed (λ a. length (headerNumbers a))) e, ap (λ (o : Outcome Header). cellsAfter headerNumbers o (now (read .before .before .before .args .out))) e)
+    let e = ap outcomeOfTune (sym (c .before .before .x .given .1)) ∙ read .read .ensures in
+    (c .refused .ensures ∙ ap (packed (λ a. length (headerNumbers a))) e, ap (λ (o : Outcome Header). listAfter headerNumbers o (now (read .before .before .before .args .out))) e)
 
 returns-2 : tie.Need-returns-2
 returns-2 c =
@@ -36,9 +36,9 @@ returns-2 c =
     let listed = filled .before .before .before in
     let read = listed .before .before .before .before in
     let out = now (read .before .before .before .args .out) in
-    let e = ap told (sym (listed .before .before .h .given .1)) ∙ read .read .ensures in (
+    let e = ap outcomeOfTune (sym (listed .before .before .h .given .1)) ∙ read .read .ensures in (
       ap (packed (λ a. length (headerNumbers a))) e,
-      filled .fill .ensures ∙ ap (λ (l : List ℕ). front l out) (listed .header-numbers .ensures) ∙ ap (λ (o : Outcome Header). cellsAfter headerNumbers o out) e,
+      filled .fill .ensures ∙ ap (λ (l : List ℕ). front l out) (listed .header-numbers .ensures) ∙ ap (λ (o : Outcome Header). listAfter headerNumbers o out) e,
     )
 
 pub fields-spec : {M : Type 1} → statement M

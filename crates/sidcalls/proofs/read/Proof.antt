@@ -1,23 +1,23 @@
 use mathlib.Core.Path.{sym, ap, _∙_, subst}
 use borrow.Author.Needs.{needs}
-use Rattle.sid.specs.Answers.{toldTested}
+use Rattle.sid.specs.Answers.{outcomeOfTested}
 use Rattle.sid.specs.Laws.{read-headed}
 use Rattle.answers.specs.Answers.{packed, noValue}
-use Rattle.answers.specs.Told.{Low, low-fits}
+use Rattle.answers.specs.Apart.{Low, low-fits}
 use Rattle.sidcalls.proofs.Places.{sid-low}
 use Rattle.sidcalls.proofs.read.Statement.{statement}
 use Rattle.sidcalls.proofs.read.Tie as tie
 
 refused-requires : tie.Need-refused-requires
 refused-requires c κs =
-    low-fits (subst Low (sym (read-headed _ _ (ap toldTested (sym (c .before .x .given .1)) ∙ c .before .before .before .test .ensures))) (sid-low _))
+    low-fits (subst Low (sym (read-headed _ _ (ap outcomeOfTested (sym (c .before .x .given .1)) ∙ c .before .before .before .test .ensures))) (sid-low _))
 
 returns : tie.Need-returns
 returns c =
-    c .refused .ensures ∙ ap (packed noValue) (read-headed _ _ (ap toldTested (sym (c .before .before .x .given .1)) ∙ c .before .before .before .before .test .ensures))
+    c .refused .ensures ∙ ap (packed noValue) (read-headed _ _ (ap outcomeOfTested (sym (c .before .before .x .given .1)) ∙ c .before .before .before .before .test .ensures))
 
 returns-2 : tie.Need-returns-2
-returns-2 c = ap (packed noValue) (read-headed _ _ (ap toldTested (sym (c .enum-told .given .1)) ∙ c .before .before .test .ensures))
+returns-2 c = ap (packed noValue) (read-headed _ _ (ap outcomeOfTested (sym (c .enum-told .given .1)) ∙ c .before .before .test .ensures))
 
 pub read-spec : {M : Type 1} → statement M
 read-spec = tie.close (tie.spec (λ c κs. search needs) (λ c. search needs) refused-requires (λ c. search needs) returns returns-2)

@@ -1,23 +1,23 @@
 use mathlib.Core.Path.{sym, ap, _∙_, subst}
 use borrow.Author.Needs.{needs}
-use Rattle.sidspeed.specs.Speed.{toldSpeed}
+use Rattle.sidspeed.specs.Speed.{outcomeOfSpeed}
 use Rattle.answers.specs.Answers.{packed}
-use Rattle.answers.specs.Told.{Low, low-fits}
+use Rattle.answers.specs.Apart.{Low, low-fits}
 use Rattle.sidcalls.proofs.Places.{speed-low}
 use Rattle.sidcalls.proofs.speed.Statement.{statement}
 use Rattle.sidcalls.proofs.speed.Tie as tie
 
 refused-requires : tie.Need-refused-requires
 refused-requires c κs =
-    low-fits (subst Low (sym (c .before .before .before .speed-of-song .ensures) ∙ ap toldSpeed (c .before .x .given .1)) (speed-low _ _))
+    low-fits (subst Low (sym (c .before .before .before .speed-of-song .ensures) ∙ ap outcomeOfSpeed (c .before .x .given .1)) (speed-low _ _))
 
 returns : tie.Need-returns
 returns c =
-    c .refused .ensures ∙ ap (packed (λ bit. bit)) (ap toldSpeed (sym (c .before .before .x .given .1)) ∙ c .before .before .before .before .speed-of-song .ensures)
+    c .refused .ensures ∙ ap (packed (λ bit. bit)) (ap outcomeOfSpeed (sym (c .before .before .x .given .1)) ∙ c .before .before .before .before .speed-of-song .ensures)
 
 returns-2 : tie.Need-returns-2
 returns-2 c =
-    ap (packed (λ bit. bit)) (ap toldSpeed (sym (c .before .bit .given .1)) ∙ c .before .before .before .speed-of-song .ensures)
+    ap (packed (λ bit. bit)) (ap outcomeOfSpeed (sym (c .before .bit .given .1)) ∙ c .before .before .before .speed-of-song .ensures)
 
 pub speed-spec : {M : Type 1} → statement M
 speed-spec =

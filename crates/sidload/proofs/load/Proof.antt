@@ -2,7 +2,7 @@
 use mathlib.Core.Path.{sym, ap, _∙_}
 use denote.Ref.{now}
 use borrow.Author.Needs.{needs}
-use Rattle.sid.specs.Answers.{toldTested}
+use Rattle.sid.specs.Answers.{outcomeOfTested}
 use Rattle.sidload.specs.Laws.{load-headed}
 use Rattle.sidload.proofs.load.Statement.{statement}
 use Rattle.sidload.proofs.load.Tie as tie
@@ -28,12 +28,12 @@ same-length-2 c = search needs
 returns : tie.Need-returns
 returns c =
     let put = c .before .before .before .before .before .put-payload in
-    (load-headed (now (c .before .before .before .before .before .before .before .before .before .args .file)) _ _ (sym (ap toldTested (c .before .answer .given .1)) ∙ put .ensures .0), put .ensures .1)
+    (load-headed (now (c .before .before .before .before .before .before .before .before .before .args .file)) _ _ (sym (ap outcomeOfTested (c .before .answer .given .1)) ∙ put .ensures .0), put .ensures .1)
 
 returns-2 : tie.Need-returns-2
 returns-2 c =
     let put = c .before .before .before .before .before .before .put-payload in
-    (rw (c .header-of .ensures) (load-headed (now (c .before .before .before .before .before .before .before .before .before .before .args .file)) _ _ (sym (ap toldTested (c .before .before .answer2 .given .1)) ∙ put .ensures .0)), put .ensures .1)
+    (rw (c .header-of .ensures) (load-headed (now (c .before .before .before .before .before .before .before .before .before .before .args .file)) _ _ (sym (ap outcomeOfTested (c .before .before .answer2 .given .1)) ∙ put .ensures .0)), put .ensures .1)
 
 pub load-spec : {M : Type 1} → statement M
 load-spec =

@@ -2,7 +2,7 @@
 use mathlib.Core.Path.{sym, ap, _∙_}
 use denote.Ref.{now}
 use borrow.Author.Needs.{needs}
-use Rattle.sid.specs.Answers.{toldTested}
+use Rattle.sid.specs.Answers.{outcomeOfTested}
 use Rattle.sidload.proofs.Outcomes.{wrong-size, put-refused, put-fits, put-done}
 use Rattle.sidload.proofs.put_payload.Statement.{statement}
 use Rattle.sidload.proofs.put_payload.Tie as tie
@@ -35,14 +35,14 @@ copy-to-requires c κs =
     let a = c .before .before .before .before .before .before .before .before .before .before .args in
     let right = c .before .before .before .before .before .before .before .if1 .left in
     let tested = c .before .before .before .before .before .before .test in
-    rw (c .before .part .ensures) (put-fits (now (a .file)) (now (a .memory)) right _ _ (sym (ap toldTested (c .before .before .before .before .answer2 .given .1)) ∙ tested .ensures))
+    rw (c .before .part .ensures) (put-fits (now (a .file)) (now (a .memory)) right _ _ (sym (ap outcomeOfTested (c .before .before .before .before .answer2 .given .1)) ∙ tested .ensures))
 
 returns-2 : tie.Need-returns-2
 returns-2 c =
     let a = c .before .before .before .before .before .before .before .args in
     let right = c .before .before .before .before .if1 .left in
     let tested = c .before .before .before .test in
-    put-refused (now (a .file)) (now (a .memory)) right _ _ (sym (ap toldTested (c .before .answer .given .1)) ∙ tested .ensures)
+    put-refused (now (a .file)) (now (a .memory)) right _ _ (sym (ap outcomeOfTested (c .before .answer .given .1)) ∙ tested .ensures)
 
 same-length : tie.Need-same-length
 same-length c = search needs
@@ -54,7 +54,7 @@ returns-3 c =
     let tested = c .before .before .before .before .before .before .before .before .before .test in
     let part = c .before .before .before .before .part in
     let copied = c .before .before .copy-to in
-    put-done (now (a .file)) (now (a .memory)) right _ _ (sym (ap toldTested (c .before .before .before .before .before .before .before .answer2 .given .1)) ∙ tested .ensures) _ (rw (← part .ensures) (copied .ensures))
+    put-done (now (a .file)) (now (a .memory)) right _ _ (sym (ap outcomeOfTested (c .before .before .before .before .before .before .before .answer2 .given .1)) ∙ tested .ensures) _ (rw (← part .ensures) (copied .ensures))
 
 pub put-payload-spec : {M : Type 1} → statement M
 put-payload-spec =

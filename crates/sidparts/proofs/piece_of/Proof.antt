@@ -2,7 +2,7 @@
 use mathlib.Core.Path.{sym, ap, _∙_}
 use denote.Ref.{now}
 use borrow.Author.Needs.{needs}
-use Rattle.sid.specs.Answers.{told}
+use Rattle.sid.specs.Answers.{outcomeOfTune}
 use Rattle.sidparts.proofs.Outcomes.{piece-refused, piece-accepted}
 use Rattle.sidparts.proofs.piece_of.Statement.{statement}
 use Rattle.sidparts.proofs.piece_of.Tie as tie
@@ -29,14 +29,14 @@ returns : tie.Need-returns
 returns c =
     let a = c .before .before .before .before .before .args in
     let read = c .before .before .before .read in
-    piece-refused (now (a .file)) (a .piece) _ _ (sym (ap told (c .before .enum-told .given .1)) ∙ read .ensures)
+    piece-refused (now (a .file)) (a .piece) _ _ (sym (ap outcomeOfTune (c .before .enum-told .given .1)) ∙ read .ensures)
 
 returns-2 : tie.Need-returns-2
 returns-2 c =
     let a = c .before .before .before .before .before .before .before .args in
     let read = c .before .before .before .before .before .read in
     rw (c .part .ensures, c .before .span-of .ensures)
-    (piece-accepted (now (a .file)) (a .piece) _ (sym (ap told (c .before .before .before .answer .given .1)) ∙ read .ensures))
+    (piece-accepted (now (a .file)) (a .piece) _ (sym (ap outcomeOfTune (c .before .before .before .answer .given .1)) ∙ read .ensures))
 
 pub piece-of-spec : {M : Type 1} → statement M
 piece-of-spec =

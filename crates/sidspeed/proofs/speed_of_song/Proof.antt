@@ -2,7 +2,7 @@
 use mathlib.Core.Path.{sym, ap, _∙_}
 use denote.Ref.{now}
 use borrow.Author.Needs.{needs}
-use Rattle.sid.specs.Answers.{toldTested}
+use Rattle.sid.specs.Answers.{outcomeOfTested}
 use Rattle.sidspeed.proofs.Outcomes.{song-refused, no-song, song-bit}
 use Rattle.sidspeed.proofs.speed_of_song.Statement.{statement}
 use Rattle.sidspeed.proofs.speed_of_song.Tie as tie
@@ -29,19 +29,19 @@ returns : tie.Need-returns
 returns c =
     let a = c .before .before .before .before .before .args in
     let tested = c .before .before .before .test in
-    song-refused (now (a .file)) (a .song) _ _ (sym (ap toldTested (c .before .answer .given .1)) ∙ tested .ensures)
+    song-refused (now (a .file)) (a .song) _ _ (sym (ap outcomeOfTested (c .before .answer .given .1)) ∙ tested .ensures)
 
 returns-2 : tie.Need-returns-2
 returns-2 c =
     let a = c .before .before .before .before .before .before .before .before .args in
     let tested = c .before .before .before .before .before .before .test in
-    rw (c .unplaced .ensures) (no-song (now (a .file)) (a .song) _ _ (sym (ap toldTested (c .before .before .before .before .answer2 .given .1)) ∙ tested .ensures) (c .before .if1 .taken))
+    rw (c .unplaced .ensures) (no-song (now (a .file)) (a .song) _ _ (sym (ap outcomeOfTested (c .before .before .before .before .answer2 .given .1)) ∙ tested .ensures) (c .before .if1 .taken))
 
 returns-3 : tie.Need-returns-3
 returns-3 c =
     let a = c .before .before .before .before .before .before .before .before .args in
     let tested = c .before .before .before .before .before .before .test in
-    song-bit (now (a .file)) (a .song) _ _ (sym (ap toldTested (c .before .before .before .before .answer2 .given .1)) ∙ tested .ensures) _ (c .before .if1 .left) (c .speed-bit .ensures)
+    song-bit (now (a .file)) (a .song) _ _ (sym (ap outcomeOfTested (c .before .before .before .before .answer2 .given .1)) ∙ tested .ensures) _ (c .before .if1 .left) (c .speed-bit .ensures)
 
 pub speed-of-song-spec : {M : Type 1} → statement M
 speed-of-song-spec =

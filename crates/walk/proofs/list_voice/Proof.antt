@@ -4,13 +4,13 @@ use borrow.Author.Needs.{needs}
 use mathlib.Core.Path.{sym, subst, _∙_}
 use native.Mathlib.Omega.{arith}
 use Rattle.moves.specs.Moves.{Bounded}
-use Rattle.walk.proofs.Listings.{Listing, listing-start, listing-end, listing-next, listing-timed, listing-room, listing-event, listing-ready, listing-move}
+use Rattle.walk.proofs.Listings.{ListingSoFar, listing-start, listing-end, listing-next, listing-timed, listing-room, listing-event, listing-ready, listing-move}
 use Rattle.walk.proofs.list_voice.Statement.{statement}
 use Rattle.walk.proofs.list_voice.Tie as tie
 
 abbrev Inv-loop : tie.InvT-loop
 Inv-loop voice base first count walked offsets₀ jiffies₀ frames₀ starts₀ place₀ now₀ cursor₀ left₀ offsets jiffies frames starts place now cursor left =
-    Listing voice base first count offsets₀ jiffies₀ offsets jiffies frames starts place now cursor left
+    ListingSoFar voice base first count offsets₀ jiffies₀ offsets jiffies frames starts place now cursor left
 
 abbrev μ-loop : tie.MeasureT-loop
 μ-loop voice base first count walked offsets₀ jiffies₀ frames₀ starts₀ place₀ now₀ cursor₀ left₀ offsets jiffies frames starts place now cursor left = left

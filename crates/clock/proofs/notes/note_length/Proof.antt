@@ -1,4 +1,5 @@
--- A note's length is document 01's: absolute pitch and the 64ths arm by arm, the other values by the law of shares, which also bounds the products.
+-- A note's length is document 01's: absolute pitch and the 64ths arm by arm, the other values by the law of
+-- shares, which also bounds the products.
 use Prim.Native.Nat.{_≤_}
 use native.Mathlib.Omega.{arith}
 use native.Mathlib.Nat.{mul-le-mul}

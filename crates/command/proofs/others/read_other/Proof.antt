@@ -4,13 +4,13 @@ use native.Mathlib.Nat.{zero-add}
 use borrow.Author.Tests.{ne-eqb}
 use borrow.Author.Needs.{needs}
 use Rattle.signed.specs.Laws.{kept}
-use Rattle.command.specs.Others.{single, found, joinedOutcome}
+use Rattle.command.specs.Others.{singleRows, rowFound, joinedOutcome}
 use Rattle.command.proofs.Firsts.{pulse-as, single-missed}
 use Rattle.command.proofs.others.read_other.Statement.{statement}
 use Rattle.command.proofs.others.read_other.Tie as tie
 
 returns : tie.Need-returns
-returns c = rw (pulse-as (c .before .args .first) (c .before .args .second) (found single (c .before .args .first) (c .before .args .second) (joinedOutcome (c .before .args .first) (c .before .args .second))) (search needs), c .if1 .taken)
+returns c = rw (pulse-as (c .before .args .first) (c .before .args .second) (rowFound singleRows (c .before .args .first) (c .before .args .second) (joinedOutcome (c .before .args .first) (c .before .args .second))) (search needs), c .if1 .taken)
 
 returns-2 : tie.Need-returns-2
 returns-2 c = rw (c .before .match .keys1, zero-add (c .before .before .before .args .second), c .tempo-of .ensures)
@@ -77,7 +77,7 @@ returns-22 c =
     let a = c .before .before .before .args .first in
     let b = c .before .before .before .args .second in
     let r = c .before .match .rest in
-    rw (pulse-as a b (found single a b (joinedOutcome a b)) (search needs), ne-eqb _ _ (c .before .before .if1 .left), c .read-joined .ensures)
+    rw (pulse-as a b (rowFound singleRows a b (joinedOutcome a b)) (search needs), ne-eqb _ _ (c .before .before .if1 .left), c .read-joined .ensures)
     (sym (single-missed a b (joinedOutcome a b) (search needs) (rw (ne-eqb _ _ (r .0 .0 .0 .0 .0 .0 .0 .0 .0 .0 .0 .0 .0 .0 .0 .0 .0 .0 .0 .1), ne-eqb _ _ (r .0 .0 .0 .0 .0 .0 .0 .0 .0 .0 .0 .0 .0 .0 .0 .0 .0 .0 .1), ne-eqb _ _ (r .0 .0 .0 .0 .0 .0 .0 .0 .0 .0 .0 .0 .0 .0 .0 .0 .0 .1), ne-eqb _ _ (r .0 .0 .0 .0 .0 .0 .0 .0 .0 .0 .0 .0 .0 .0 .0 .0 .1), ne-eqb _ _ (r .0 .0 .0 .0 .0 .0 .0 .0 .0 .0 .0 .0 .0 .0 .0 .1), ne-eqb _ _ (r .0 .0 .0 .0 .0 .0 .0 .0 .0 .0 .0 .0 .0 .0 .1), ne-eqb _ _ (r .0 .0 .0 .0 .0 .0 .0 .0 .0 .0 .0 .0 .0 .1), ne-eqb _ _ (r .0 .0 .0 .0 .0 .0 .0 .0 .0 .0 .0 .0 .1), ne-eqb _ _ (r .0 .0 .0 .0 .0 .0 .0 .0 .0 .0 .0 .1), ne-eqb _ _ (r .0 .0 .0 .0 .0 .0 .0 .0 .0 .0 .1), ne-eqb _ _ (r .0 .0 .0 .0 .0 .0 .0 .0 .0 .1), ne-eqb _ _ (r .0 .0 .0 .0 .0 .0 .0 .0 .1), ne-eqb _ _ (r .0 .0 .0 .0 .0 .0 .0 .1), ne-eqb _ _ (r .0 .0 .0 .0 .0 .0 .1), ne-eqb _ _ (r .0 .0 .0 .0 .0 .1), ne-eqb _ _ (r .0 .0 .0 .0 .1), ne-eqb _ _ (r .0 .0 .0 .1), ne-eqb _ _ (r .0 .0 .1), ne-eqb _ _ (r .0 .1), ne-eqb _ _ (r .1)))))
 
 pub read-other-spec : {M : Type 1} → statement M

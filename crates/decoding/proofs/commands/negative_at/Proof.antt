@@ -1,13 +1,13 @@
 -- One answer an arm: each is the command of its number.
 use borrow.Author.Needs.{needs}
 use Rattle.signed.specs.Laws.{kept}
-use Rattle.decoding.specs.Tables.{negative}
+use Rattle.decoding.specs.Tables.{negativeCommands}
 use Rattle.decoding.proofs.Lookups.{missed}
 use Rattle.decoding.proofs.commands.negative_at.Statement.{statement}
 use Rattle.decoding.proofs.commands.negative_at.Tie as tie
 
 returns : tie.Need-returns
-returns c = rw (missed Unit negative (c .before .before .before .args .id) (c .before .match .rest), c .none .ensures)
+returns c = rw (missed Unit negativeCommands (c .before .before .before .args .id) (c .before .match .rest), c .none .ensures)
 
 pub negative-at-spec : {M : Type 1} → statement M
 negative-at-spec =

@@ -1,4 +1,5 @@
--- One line an arm: first bytes whose second byte counts by a test over it, the others by the first byte alone.
+-- One line an arm: first bytes whose second byte counts by a test over it, the others by the first byte
+-- alone.
 use mathlib.Core.Bool.{_&&_, _||_}
 use Prim.Native.Nat.{_%_}
 use native.Mathlib.Nat.{zero-add}

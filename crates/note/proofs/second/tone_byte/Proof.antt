@@ -1,7 +1,7 @@
 use mathlib.Core.Path.{_∙_, sym}
 use native.Mathlib.Omega.{arith}
 use Rattle.meaning.specs.Laws.{octave-low}
-use Rattle.note.specs.Laws.{accidental-low, letter-low}
+use Rattle.note.specs.Laws.{accidental-low, letter-number-low}
 use borrow.Author.Needs.{needs}
 use Rattle.note.proofs.second.tone_byte.Statement.{statement}
 use Rattle.note.proofs.second.tone_byte.Tie as tie
@@ -34,7 +34,7 @@ add-t14 c =
     let low = octave-low p (sym (at .before .in-tables .ensures) ∙ at .if1 .taken) in
     let bits = accidental-low (p .accidental) in
     let is = c .before .accidental-bits .ensures in
-    record { fits = omega (arith, letter-low (p .letter), c .letter-number .ensures) }
+    record { fits = omega (arith, letter-number-low (p .letter), c .letter-number .ensures) }
 
 returns-2 : tie.Need-returns-2
 returns-2 c =

@@ -1,11 +1,11 @@
 -- An answer tells a value from a refusal: a value is below 2^32, and of a refusal the number is above 0 and
 -- the place below 2^32. So no value can be taken for a refusal, and no refusal for a value.
--- Told             so for an outcome and the value that a call answers
+-- Apart                        so for an outcome and the value that a call answers
 -- value-apart, refusal-apart   the two halves of an answer are 0 and the value, or the number and the place
--- Low              a refusal with a number above 0 and a place in a file of at most 65,536 bytes
+-- Low                          a refusal with a number above 0 and a place in a file of at most 65,536 bytes
 -- low-fits, unplaced-fits      such a place fits an answer, and so does 0
--- low-told         where refusals are low, and values below 2^32, an answer tells them apart
--- tests-low        so for tests made before an outcome
+-- low-apart                    where refusals are low, and values below 2^32, an answer tells them apart
+-- tests-low                    so for tests made before an outcome
 use Prim.Native.Nat.{ℕ, _/_, _%_, _≤_, _<_}
 use mathlib.Core.Path.{_≡_, refl}
 use mathlib.Core.List.{List}
@@ -19,9 +19,9 @@ use Rattle.refusals.specs.Tests.{Test, firstOf, guarded}
 use Rattle.refusals.specs.Laws.{first-above}
 use Rattle.answers.specs.Answers.{packed}
 
-abbrev pub Told : {A : Type 0} → (A → ℕ) → Outcome A → Type 0
-Told value (accepted a) = value a < 0x100000000
-Told value (refused number place) = (0 < number) × (place < 0x100000000)
+abbrev pub Apart : {A : Type 0} → (A → ℕ) → Outcome A → Type 0
+Apart value (accepted a) = value a < 0x100000000
+Apart value (refused number place) = (0 < number) × (place < 0x100000000)
 
 abbrev pub Low : {A : Type 0} → Outcome A → Type 0
 Low (accepted a) = Unit
@@ -34,15 +34,15 @@ pub unplaced-fits : {p : ℕ} → p ≡ 0 → p < 0x100000000
 unplaced-fits e = omega arith
 
 module _ {A : Type 0} (value : A → ℕ) where
-  pub value-apart : (a : A) → Told value (accepted a) → (packed value (accepted a) / 0x100000000 ≡ 0) × (packed value (accepted a) % 0x100000000 ≡ value a)
+  pub value-apart : (a : A) → Apart value (accepted a) → (packed value (accepted a) / 0x100000000 ≡ 0) × (packed value (accepted a) % 0x100000000 ≡ value a)
   value-apart a h = (omega arith, omega arith)
 
-  pub refusal-apart : (number place : ℕ) → Told value (refused number place) → (packed value (refused number place) / 0x100000000 ≡ number) × (packed value (refused number place) % 0x100000000 ≡ place)
+  pub refusal-apart : (number place : ℕ) → Apart value (refused number place) → (packed value (refused number place) / 0x100000000 ≡ number) × (packed value (refused number place) % 0x100000000 ≡ place)
   refusal-apart number place h = (omega arith, omega arith)
 
-  pub low-told : (o : Outcome A) → ((a : A) → o ≡ accepted a → value a < 0x100000000) → Low o → Told value o
-  low-told (accepted a) h l = h a refl
-  low-told (refused number place) h l = (l .0, omega arith)
+  pub low-apart : (o : Outcome A) → ((a : A) → o ≡ accepted a → value a < 0x100000000) → Low o → Apart value o
+  low-apart (accepted a) h l = h a refl
+  low-apart (refused number place) h l = (l .0, omega arith)
 
 pub tests-low : {A : Type 0} (ts : List Test) (o : Outcome A) → Low o → Low (guarded (firstOf ts) o)
 tests-low ts o h = go (firstOf ts) refl
