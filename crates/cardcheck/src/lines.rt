@@ -1,11 +1,12 @@
 // What a line says of a file.
 use crate::text::address;
-use crate::text::hex_byte;
-use crate::text::number;
 use crate::text::quote;
-use crate::text::write;
 use fields::Span;
 use mus::Song;
+use printing::write;
+use printing::write_after;
+use printing::write_hex;
+use printing::write_number;
 use refusals::Refusal;
 use sid::Header;
 use sid::Kind;
@@ -21,7 +22,7 @@ fn range(load: u16, payload: Span) {
 }
 
 fn songs(n: u16) {
-    number(n as usize);
+    write_number(n as u64);
     if n == 1 {
         write(b" song");
     } else {
@@ -29,13 +30,22 @@ fn songs(n: u16) {
     }
 }
 
+pub fn kind(kind: Kind) {
+    match kind {
+        Kind::Psid => {
+            write(b": PSID ");
+        }
+        Kind::Rsid => {
+            write(b": RSID ");
+        }
+    }
+}
+
 // A tune that is accepted.
 pub fn tune(file: &[u8], h: Header) {
-    let kind = h.kind;
-    match kind {
-        Kind::Psid => write(b": PSID accepted: "),
-        Kind::Rsid => write(b": RSID accepted: "),
-    }
+    let format = h.kind;
+    kind(format);
+    write(b"accepted: ");
     quote(sidparts::part(file, h.title));
     write(b" by ");
     quote(sidparts::part(file, h.author));
@@ -51,12 +61,9 @@ pub fn song(file: &[u8], s: Song) {
     let line = s.line1;
     let from = line.from;
     let len = line.len;
-    write(b": MUS accepted: voices of ");
-    number(s.voice1.events as usize);
-    write(b", ");
-    number(s.voice2.events as usize);
-    write(b" and ");
-    number(s.voice3.events as usize);
+    write_after(b": MUS accepted: voices of ", s.voice1.events as u64);
+    write_after(b", ", s.voice2.events as u64);
+    write_after(b" and ", s.voice3.events as u64);
     write(b" events, ");
     quote(fields::part(file, from, len));
     write(b"\n");
@@ -71,9 +78,8 @@ fn reason(number: u32) {
 
 // A refusal's number and place.
 fn placed(x: Refusal) {
-    number(x.number as usize);
-    write(b" at place ");
-    number(x.place);
+    write_number(x.number as u64);
+    write_after(b" at place ", x.place as u64);
 }
 
 // A refusal's number, place and reason.
@@ -91,26 +97,40 @@ pub fn refusal_in_song(file: &[u8], x: Refusal) {
     }
     placed(x);
     write(b" (");
-    hex_byte(fields::byte_at(file, x.place));
+    write_hex(fields::byte_at(file, x.place));
     write(b" ");
-    hex_byte(fields::byte_at(file, wrapping_add_usize(x.place, 1)));
+    write_hex(fields::byte_at(file, wrapping_add_usize(x.place, 1)));
     write(b"): ");
     reason(x.number);
 }
 
+// The number of an error's line in error.
+fn error_line(n: i32) -> usize {
+    match n {
+        libc::ENOENT => 1,
+        libc::EACCES => 2,
+        libc::EISDIR => 3,
+        libc::ENOTDIR => 4,
+        libc::ENAMETOOLONG => 5,
+        libc::EINVAL => 6,
+        libc::ELOOP => 7,
+        libc::EIO => 8,
+        _ => 0,
+    }
+}
+
 // Why a file is not opened or not read.
 pub fn error(n: i32) {
-    match n {
-        libc::ENOENT => write(b"there is no such file"),
-        libc::EACCES => write(b"no right to read it"),
-        libc::EISDIR => write(b"it is a folder"),
-        libc::ENOTDIR => write(b"a part of its path is no folder"),
-        libc::ENAMETOOLONG => write(b"its name is too long"),
-        libc::EINVAL => write(b"its name cannot be a file's"),
-        libc::ELOOP => write(b"its links go round in a circle"),
-        libc::EIO => write(b"the disk or card does not give it"),
-        _ => write(b"the machine does not give it"),
-    }
+    let lines = b"the machine does not give it\n\
+        there is no such file\n\
+        no right to read it\n\
+        it is a folder\n\
+        a part of its path is no folder\n\
+        its name is too long\n\
+        its name cannot be a file's\n\
+        its links go round in a circle\n\
+        the disk or card does not give it\n";
+    write(fields::entry_at(lines, b'\n', error_line(n)));
 }
 
 pub fn usage() {
@@ -125,11 +145,9 @@ pub fn usage() {
 
 // The last line.
 pub fn total(accepted: usize, refused: usize, unreadable: usize) {
-    number(accepted);
-    write(b" accepted, ");
-    number(refused);
-    write(b" refused, ");
-    number(unreadable);
+    write_number(accepted as u64);
+    write_after(b" accepted, ", refused as u64);
+    write_after(b" refused, ", unreadable as u64);
     write(b" unreadable");
     if (refused == 0) & (unreadable == 0) {
         write(b": the card can be pressed\n");

@@ -1,12 +1,12 @@
-// Checks the files of a card before it is pressed. Each argument names a file; a line says what the file is, and that the panel takes it or why
-// not. The last line counts them.
+// Checks the files of a card before it is pressed. Each argument names a file; a line says what the file is,
+// and that the panel takes it or why not. The last line counts them.
 use card::Judged;
 use files::Loaded;
 use mus::Song;
+use printing::write;
 use refusals::Refusal;
 use sid::Header;
 use sid::Kind;
-use text::write;
 
 mod lines;
 mod text;
@@ -21,7 +21,8 @@ enum Checked {
 // Longer than any path that can be opened.
 const NAME: usize = 8192;
 
-// Longer than any accepted file, so that what is cut off changes no answer: the law `judged-cut` of crates/card/proofs/CutOff.antt.
+// Longer than any accepted file, so that what is cut off changes no answer: the law `judged-cut` of
+// crates/card/proofs/CutOff.antt.
 const FILE: usize = 66000;
 
 fn accept_tune(file: &[u8], h: Header) -> Checked {
@@ -35,10 +36,8 @@ fn accept_song(file: &[u8], song: Song) -> Checked {
 }
 
 fn refuse_tune(kind: Kind, x: Refusal) -> Checked {
-    match kind {
-        Kind::Psid => write(b": PSID refused "),
-        Kind::Rsid => write(b": RSID refused "),
-    }
+    lines::kind(kind);
+    write(b"refused ");
     lines::refusal(x);
     write(b"\n");
     Checked::Refused

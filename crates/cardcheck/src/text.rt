@@ -1,28 +1,12 @@
 // What is written, so that no byte of a file or a name upsets a terminal.
-use libc::STDOUT_FILENO;
-
-pub fn write(words: &[u8]) {
-    io::write_all(STDOUT_FILENO, words);
-}
-
-pub fn number(n: usize) {
-    io::print_decimal(STDOUT_FILENO, n as u64);
-}
-
-fn digit(n: u8) -> u8 {
-    b"0123456789ABCDEF"[(n % 16) as usize]
-}
-
-// Two hex digits.
-pub fn hex_byte(b: u8) {
-    write(&[digit(b / 16), digit(b)]);
-}
+use printing::write;
+use printing::write_hex;
 
 // An address, $0000 to $FFFF.
 pub fn address(n: usize) {
     write(b"$");
-    hex_byte((n / 256 % 256) as u8);
-    hex_byte((n % 256) as u8);
+    write_hex((n / 256 % 256) as u8);
+    write_hex((n % 256) as u8);
 }
 
 // A byte of a text: a letter, digit or sign of ASCII as it is, any other as \xNN.
@@ -31,7 +15,7 @@ fn show_byte(b: u8) {
         write(&[b]);
     } else {
         write(b"\\x");
-        hex_byte(b);
+        write_hex(b);
     }
 }
 

@@ -1,31 +1,27 @@
-// Lists the events of a Sidplayer MUS file on standard input in played order, a line an event with its voice, its number, the file
-// offset of its pair and its jiffy; or shows the refusal's number and place.
+// Lists the events of a Sidplayer MUS file on standard input in played order, a line an event with its voice,
+// its number, the file offset of its pair and its jiffy; or shows the refusal's number and place.
 use events::Listed;
 use libc::STDIN_FILENO;
 use libc::STDOUT_FILENO;
 use mus::Reading;
 use mus::Song;
+use printing::write;
+use printing::write_refusal;
 use refusals::Refusal;
 
 mod lines;
 
-// A voice is listed a window of so many events at a time. The call walks to each window from the voice's start, so windows are to be few: at
-// most 8 for the 1,048,576 pairs that an accepted voice walks.
+// A voice is listed a window of so many events at a time. The call walks to each window from the voice's
+// start, so windows are to be few: at most 8 for the 1,048,576 pairs that an accepted voice walks.
 pub const WINDOW: usize = 131072;
 
-fn write(text: &[u8]) -> bool {
-    io::write_all(STDOUT_FILENO, text)
-}
-
 fn refuse(x: Refusal) {
-    io::print_decimal(STDOUT_FILENO, x.number as u64);
-    write(b" ");
-    io::print_decimal(STDOUT_FILENO, x.place as u64);
+    write_refusal(x);
     write(b"\n");
 }
 
-// Shows a voice's events from number first on, as many as a window holds; answers whether to go on, which is not so once output is
-// closed.
+// Shows a voice's events from number first on, as many as a window holds; answers whether to go on, which is
+// not so once output is closed.
 fn show_window(file: &[u8], voice: u32, first: u32) -> bool {
     let mut offsets = [0u32; WINDOW];
     let mut jiffies = [0u32; WINDOW];
@@ -55,7 +51,7 @@ fn show_voice(file: &[u8], voice: u32, events: u32) -> bool {
 }
 
 fn show_song(file: &[u8], song: Song) {
-    if !write(b"voice event place jiffy\n") {
+    if !io::write_all(STDOUT_FILENO, b"voice event place jiffy\n") {
         return;
     }
     if !show_voice(file, 1, song.voice1.events) {
@@ -68,7 +64,8 @@ fn show_song(file: &[u8], song: Song) {
 }
 
 fn main() {
-    // longer than any accepted file, so that what is cut off changes no answer: past 65,536 bytes every file is refused 22
+    // longer than any accepted file, so that what is cut off changes no answer: past 65,536 bytes every file
+    // is refused 22
     let mut file = [0u8; 66000];
     let n = io::read_full(STDIN_FILENO, &mut file);
     let answer = mus::accept(&file[..n]);

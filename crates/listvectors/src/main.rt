@@ -1,9 +1,11 @@
-// Runs the calls of args, five words each, through the listing of the files of data/, and shows every answer and every lent cell, a
-// line a call. tools/listvectors makes the files and says what each call must give.
+// Runs the calls of args, five words each, through the listing of the files of data/, and shows every answer
+// and every lent cell, a line a call. tools/listvectors makes the files and says what each call must give.
 ghost use Prim.Native.Nat.{_≤_};
 use events::Listed;
 use files::Loaded;
-use libc::STDOUT_FILENO;
+use printing::write;
+use printing::write_after;
+use printing::write_refusal;
 use refusals::Refusal;
 use std::num::wrapping_add_u32;
 use std::num::wrapping_add_u64;
@@ -18,36 +20,22 @@ struct Call {
     jiffies: u64,
 }
 
-fn write(text: &[u8]) {
-    io::write_all(STDOUT_FILENO, text);
-}
-
-// A number, with a space before it.
-fn show(n: u64) {
-    write(b" ");
-    io::print_decimal(STDOUT_FILENO, n);
-}
-
 fn show_refusal(x: Refusal) {
-    write(b" refused");
-    show(x.number as u64);
-    show(x.place as u64);
-}
-
-fn show_count(count: usize) {
-    write(b" count");
-    show(count as u64);
+    write(b" refused ");
+    write_refusal(x);
 }
 
 fn show_answer(answer: Listed) {
     match answer {
-        Listed::Count(count) => show_count(count),
+        Listed::Count(count) => {
+            write_after(b" count ", count as u64);
+        }
         Listed::Refused(x) => show_refusal(x),
     }
 }
 
 fn show_cell(x: u32) {
-    show(x as u64);
+    write_after(b" ", x as u64);
 }
 
 fn show_cells(cells: &[u32]) {
@@ -103,7 +91,7 @@ fn within(n: u64, len: usize) -> usize
     if n < len as u64 { n as usize } else { len }
 }
 
-// Shows the cells that were lent, and two behind them.
+// Shows the cells that were lent, and two after them.
 fn show_lent(cells: &[u32], n: u64) {
     let shown = within(wrapping_add_u64(n, 2), cells.len());
     show_cells(&cells[0..shown]);

@@ -1,43 +1,29 @@
-// Shows a Sidplayer MUS file on standard input as accepted, with its load address, voices and text lines, or the refusal's
-// number and place.
+// Shows a Sidplayer MUS file on standard input as accepted, with its load address, voices and text lines, or
+// the refusal's number and place.
 use libc::STDIN_FILENO;
-use libc::STDOUT_FILENO;
 use mus::Reading;
 use mus::Song;
 use mus::Voice;
+use printing::write;
+use printing::write_after;
+use printing::write_refusal;
 use refusals::Refusal;
 
-fn write(text: &[u8]) {
-    io::write_all(STDOUT_FILENO, text);
-}
-
-fn number(n: usize) {
-    io::print_decimal(STDOUT_FILENO, n as u64);
-}
-
-// A word, a space and a number.
-fn show(word: &[u8], n: usize) {
-    write(word);
-    write(b" ");
-    number(n);
-}
-
 // A line of a voice: the file offset of its first pair, its pairs, and what acceptance reports of it.
-fn voice_line(word: &[u8], v: Voice) {
-    write(word);
-    show(b" offset", v.offset);
-    show(b" pairs", v.length / 2);
-    show(b" events", v.events as usize);
-    show(b" walked", v.walked as usize);
+fn voice_line(words: &[u8], v: Voice) {
+    write_after(words, v.offset as u64);
+    write_after(b" pairs ", v.length as u64 / 2);
+    write_after(b" events ", v.events as u64);
+    write_after(b" walked ", v.walked as u64);
     write(b"\n");
 }
 
 fn show_song(song: Song) {
-    show(b"load", song.load as usize);
+    write_after(b"load ", song.load as u64);
     write(b"\n");
-    voice_line(b"voice 1", song.voice1);
-    voice_line(b"voice 2", song.voice2);
-    voice_line(b"voice 3", song.voice3);
+    voice_line(b"voice 1 offset ", song.voice1);
+    voice_line(b"voice 2 offset ", song.voice2);
+    voice_line(b"voice 3 offset ", song.voice3);
 }
 
 // A line of a text line, as its bytes are.
@@ -56,14 +42,13 @@ fn show_text(file: &[u8]) {
 }
 
 fn refuse(x: Refusal) {
-    number(x.number as usize);
-    write(b" ");
-    number(x.place);
+    write_refusal(x);
     write(b"\n");
 }
 
 fn main() {
-    // longer than any accepted file, so that what is cut off changes no answer: past 65,536 bytes every file is refused 22
+    // longer than any accepted file, so that what is cut off changes no answer: past 65,536 bytes every file
+    // is refused 22
     let mut file = [0u8; 66000];
     let n = io::read_full(STDIN_FILENO, &mut file);
     let answer = mus::accept(&file[..n]);

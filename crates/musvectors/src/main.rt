@@ -1,42 +1,32 @@
-// Runs the hand-made files of data/ through accept and text_line, and shows every answer, a line a file. tools/musvectors makes
-// the files and says what each must give.
+// Runs the hand-made files of data/ through accept and text_line, and shows every answer, a line a file.
+// tools/musvectors makes the files and says what each must give.
 use fields::Span;
 use files::Loaded;
-use libc::STDOUT_FILENO;
 use mus::Reading;
 use mus::Song;
 use mus::Voice;
+use printing::write;
+use printing::write_after;
+use printing::write_refusal;
 use refusals::Refusal;
 
-fn write(text: &[u8]) {
-    io::write_all(STDOUT_FILENO, text);
-}
-
-// A number, with a space before it.
-fn show(n: usize) {
-    write(b" ");
-    io::print_decimal(STDOUT_FILENO, n as u64);
-}
-
-fn show_voice(word: &[u8], v: Voice) {
-    write(word);
-    show(v.offset);
-    show(v.length);
-    show(v.events as usize);
-    show(v.walked as usize);
+fn show_voice(words: &[u8], v: Voice) {
+    write_after(words, v.offset as u64);
+    write_after(b" ", v.length as u64);
+    write_after(b" ", v.events as u64);
+    write_after(b" ", v.walked as u64);
 }
 
 fn show_span(span: Span) {
-    show(span.from);
-    show(span.len);
+    write_after(b" ", span.from as u64);
+    write_after(b" ", span.len as u64);
 }
 
 fn show_song(song: Song) {
-    write(b" accepted load");
-    show(song.load as usize);
-    show_voice(b" v1", song.voice1);
-    show_voice(b" v2", song.voice2);
-    show_voice(b" v3", song.voice3);
+    write_after(b" accepted load ", song.load as u64);
+    show_voice(b" v1 ", song.voice1);
+    show_voice(b" v2 ", song.voice2);
+    show_voice(b" v3 ", song.voice3);
     write(b" lines");
     show_span(song.line1);
     show_span(song.line2);
@@ -46,9 +36,8 @@ fn show_song(song: Song) {
 }
 
 fn show_refusal(x: Refusal) {
-    write(b" refused");
-    show(x.number as usize);
-    show(x.place);
+    write(b" refused ");
+    write_refusal(x);
 }
 
 fn show_reading(answer: Reading) {

@@ -1,13 +1,14 @@
 // What a pair's meaning is called: source 004's abbreviation, and the value.
 use crate::notes::put_note;
 use crate::text::number_of;
+use crate::text::put_integer;
 use crate::text::put_nth;
-use crate::text::put_signed;
 use meaning::Bump;
 use meaning::Meaning;
 use meaning::Note;
 
-// A meaning by what is to be shown: a note, or a command by its number in source 004's order, from 0 on, and its value.
+// A meaning by what is to be shown: a note, or a command by its number in source 004's order, from 0 on, and
+// its value.
 enum Shown {
     Note(Note),
     Bare(u8),
@@ -98,17 +99,17 @@ fn put_named(out: &mut [u8], at: usize, number: u8, word: u8) -> usize {
     put_nth(out, to, b"NO YES UP DN", word)
 }
 
-fn put_integer(out: &mut [u8], at: usize, number: u8, value: i32) -> usize {
+fn put_valued(out: &mut [u8], at: usize, number: u8, value: i32) -> usize {
     let to = put_name(out, at, number);
-    put_signed(out, to, value)
+    put_integer(out, to, value)
 }
 
 pub fn put_meaning(out: &mut [u8], at: usize, meaning: Meaning) -> usize {
     match told(meaning) {
         Shown::Note(note) => put_note(out, at, note),
         Shown::Bare(n) => put_name(out, at, n),
-        Shown::Count(n, v) => put_integer(out, at, n, v as i32),
-        Shown::Integer(n, z) => put_integer(out, at, n, z),
+        Shown::Count(n, v) => put_valued(out, at, n, v as i32),
+        Shown::Integer(n, z) => put_valued(out, at, n, z),
         Shown::Switch(n, yes) => put_named(out, at, n, number_of(yes)),
         Shown::Bump(n, bump) => put_named(out, at, n, bump_number(bump)),
     }

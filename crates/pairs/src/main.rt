@@ -1,10 +1,13 @@
-// Shows what each pair of standard input means and how the writer spells that, a line a pair. An odd last byte is no pair and is
-// left out.
+// Shows what each pair of standard input means and how the writer spells that, a line a pair. An odd last
+// byte is no pair and is left out.
 use libc::STDIN_FILENO;
-use libc::STDOUT_FILENO;
 use meaning::Meaning;
 use meaning::Reading;
 use meaning::Spelling;
+use printing::put;
+use printing::put_after;
+use printing::put_hex;
+use printing::write;
 use refusals::Refusal;
 
 mod commands;
@@ -19,21 +22,20 @@ const NEARLY_FULL: usize = 65000;
 
 // The word, and the paper's number.
 fn put_refusal(out: &mut [u8], at: usize, x: Refusal) -> usize {
-    let to = text::put_word(out, at, b"refused");
-    text::put_number(out, to, x.number)
+    put_after(out, at, b" refused ", x.number as u64)
 }
 
 // Two bytes, with a space between.
 fn put_bytes(out: &mut [u8], at: usize, first: u8, second: u8) -> usize {
-    let a = text::put_hex(out, at, first);
-    let b = text::put(out, a, b' ');
-    text::put_hex(out, b, second)
+    let a = put_hex(out, at, first);
+    let b = put(out, a, b" ");
+    put_hex(out, b, second)
 }
 
 fn put_spelling(out: &mut [u8], at: usize, meaning: Meaning) -> usize {
     match pair::write(meaning) {
         Spelling::Bytes(first, second) => {
-            let to = text::put(out, at, b' ');
+            let to = put(out, at, b" ");
             put_bytes(out, to, first, second)
         }
         Spelling::Refused(x) => put_refusal(out, at, x),
@@ -54,13 +56,11 @@ fn put_line(out: &mut [u8], at: usize, first: u8, second: u8) -> usize {
     let answer = pair::read(first, second);
     let a = put_bytes(out, at, first, second);
     let b = put_answer(out, a, answer);
-    text::put(out, b, b'\n')
+    put(out, b, b"\n")
 }
 
 fn write_out(out: &[u8], used: usize) {
-    if used <= out.len() {
-        io::write_all(STDOUT_FILENO, &out[0..used]);
-    }
+    write(fields::part(out, 0, used));
 }
 
 // Gives the place where there is room for a line: this one, or the start after the buffer is written out.

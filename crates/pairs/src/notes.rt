@@ -1,8 +1,7 @@
 // The words for a note.
 use crate::put_refusal;
+use crate::text::put_integer;
 use crate::text::put_nth;
-use crate::text::put_number;
-use crate::text::put_signed;
 use meaning::Accidental;
 use meaning::Duration;
 use meaning::HalfStep;
@@ -11,8 +10,10 @@ use meaning::Note;
 use meaning::Pitch;
 use meaning::Shape;
 use meaning::Tone;
+use printing::put_after;
 
-// All words stand in the one list of put_said. These are the numbers of two of them, and the functions below give the others'.
+// All words stand in the one list of put_said. These are the numbers of two of them, and the functions below
+// give the others'.
 const NOTE: u8 = 0;
 
 const REST: u8 = 29;
@@ -95,7 +96,7 @@ fn put_length(out: &mut [u8], at: usize, duration: Duration, shape: Shape, tied:
 
 fn put_half_step(out: &mut [u8], at: usize, pitch: Pitch) -> usize {
     match meaning::half_step(pitch) {
-        HalfStep::Step(z) => put_signed(out, at, z),
+        HalfStep::Step(z) => put_integer(out, at, z),
         HalfStep::Refused(x) => put_refusal(out, at, x),
     }
 }
@@ -107,7 +108,7 @@ fn put_pitch(out: &mut [u8], at: usize, pitch: Pitch) -> usize {
     let octave = pitch.octave;
     let a = put_said(out, at, letter_number(letter));
     let b = put_said(out, a, accidental_number(accidental));
-    let c = put_number(out, b, octave as u32);
+    let c = put_after(out, b, b" ", octave as u64);
     put_half_step(out, c, pitch)
 }
 

@@ -1,5 +1,5 @@
-// Writes meanings that stand on either side of each range, and shows the bytes or the refusal. tools/pairvectors says what
-// each must give.
+// Writes meanings that stand on either side of each range, and shows the bytes or the refusal.
+// tools/pairvectors says what each must give.
 mod commands;
 mod notes;
 mod show;

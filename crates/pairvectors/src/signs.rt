@@ -1,4 +1,5 @@
-// Commands with a signed value: the ends of each range, and the numbers next to them; last the type's own ends.
+// Commands with a signed value: the ends of each range, and the numbers next to them; last the type's own
+// ends.
 use crate::show;
 use meaning::Meaning;
 

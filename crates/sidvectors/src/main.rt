@@ -1,8 +1,10 @@
-// Runs the hand-made files of data/ through read, load and speed_of_song, and shows every answer. tools/sidvectors makes the
-// files and says what each must give.
+// Runs the hand-made files of data/ through read, load and speed_of_song, and shows every answer.
+// tools/sidvectors makes the files and says what each must give.
 use fields::Span;
 use files::Loaded;
-use libc::STDOUT_FILENO;
+use printing::write;
+use printing::write_after;
+use printing::write_refusal;
 use refusals::Refusal;
 use sid::Header;
 use sid::Kind;
@@ -40,70 +42,59 @@ fn changed(memory: &[u8]) -> Cells {
     Cells { first, count, sum }
 }
 
-fn write(text: &[u8]) {
-    io::write_all(STDOUT_FILENO, text);
-}
-
-// A word and a number, with a space before each.
-fn show(word: &[u8], n: usize) {
-    write(b" ");
-    write(word);
-    write(b" ");
-    io::print_decimal(STDOUT_FILENO, n as u64);
-}
-
-fn show_two(word: &[u8], a: usize, b: usize) {
-    show(word, a);
-    write(b" ");
-    io::print_decimal(STDOUT_FILENO, b as u64);
-}
-
-fn show_span(word: &[u8], span: Span) {
-    show_two(word, span.from, span.len);
+fn show_span(words: &[u8], span: Span) {
+    write_after(words, span.from as u64);
+    write_after(b" ", span.len as u64);
 }
 
 fn show_refusal(x: Refusal) {
-    show_two(b"refused", x.number as usize, x.place);
+    write(b" refused ");
+    write_refusal(x);
 }
 
 fn show_cells(memory: &[u8]) {
     let c = changed(memory);
-    show_two(b"cells", c.first, c.count);
-    write(b" ");
-    io::print_decimal(STDOUT_FILENO, c.sum as u64);
+    write_after(b" cells ", c.first as u64);
+    write_after(b" ", c.count as u64);
+    write_after(b" ", c.sum as u64);
     write(b"\n");
 }
 
 fn show_kind(kind: Kind) {
     match kind {
-        Kind::Psid => write(b" accepted PSID"),
-        Kind::Rsid => write(b" accepted RSID"),
+        Kind::Psid => {
+            write(b" accepted PSID");
+        }
+        Kind::Rsid => {
+            write(b" accepted RSID");
+        }
     }
 }
 
 fn show_player(h: Header) {
     let kind = h.kind;
     show_kind(kind);
-    show(b"version", h.version as usize);
-    show(b"load", h.load as usize);
-    show(b"init", h.init as usize);
-    show(b"play", h.play as usize);
-    show(b"songs", h.songs as usize);
-    show(b"start", h.start as usize);
-    show(b"speed", h.speed as usize);
+    write_after(b" version ", h.version as u64);
+    write_after(b" load ", h.load as u64);
+    write_after(b" init ", h.init as u64);
+    write_after(b" play ", h.play as u64);
+    write_after(b" songs ", h.songs as u64);
+    write_after(b" start ", h.start as u64);
+    write_after(b" speed ", h.speed as u64);
 }
 
 fn show_parts(h: Header) {
-    let page = h.page as usize;
-    let pages = h.pages as usize;
-    show(b"basic", h.basic as usize);
-    show(b"clock", h.clock as usize);
-    show(b"model", h.model as usize);
-    show_two(b"pages", page, pages);
-    show_span(b"title", h.title);
-    show_span(b"author", h.author);
-    show_span(b"released", h.released);
-    show_span(b"payload", h.payload);
+    let page = h.page as u64;
+    let pages = h.pages as u64;
+    write_after(b" basic ", h.basic as u64);
+    write_after(b" clock ", h.clock as u64);
+    write_after(b" model ", h.model as u64);
+    write_after(b" pages ", page);
+    write_after(b" ", pages);
+    show_span(b" title ", h.title);
+    show_span(b" author ", h.author);
+    show_span(b" released ", h.released);
+    show_span(b" payload ", h.payload);
 }
 
 fn show_reading(answer: Reading) {
@@ -120,34 +111,40 @@ fn show_reading(answer: Reading) {
 fn load_line(name: &[u8], file: &[u8], memory: &mut [u8]) {
     let answer = sidload::load(file, memory);
     write(name);
-    show(b"memory", memory.len());
+    write_after(b" memory ", memory.len() as u64);
     match answer {
-        Reading::Accepted(_) => write(b" loaded"),
+        Reading::Accepted(_) => {
+            write(b" loaded");
+        }
         Reading::Refused(x) => show_refusal(x),
     }
     show_cells(memory);
 }
 
-fn show_song(file: &[u8], word: &[u8], song: u64) {
+fn show_song(file: &[u8], words: &[u8], song: u64) {
     match sidspeed::speed_of_song(file, song) {
-        SongSpeed::Bit(b) => show(word, b as usize),
-        SongSpeed::Refused(x) => show(word, x.number as usize),
+        SongSpeed::Bit(b) => {
+            write_after(words, b as u64);
+        }
+        SongSpeed::Refused(x) => {
+            write_after(words, x.number as u64);
+        }
     }
 }
 
 // A line with the speed bits of songs, or the refusal's number.
 fn song_line(name: &[u8], file: &[u8], songs: u16) {
     write(name);
-    show_song(file, b"song 0:", 0);
-    show_song(file, b"1:", 1);
-    show_song(file, b"2:", 2);
-    show_song(file, b"3:", 3);
-    show_song(file, b"31:", 31);
-    show_song(file, b"32:", 32);
-    show_song(file, b"33:", 33);
-    show_song(file, b"last:", songs as u64);
-    show_song(file, b"next:", songs as u64 + 1);
-    show_song(file, b"greatest:", u64::MAX);
+    show_song(file, b" song 0: ", 0);
+    show_song(file, b" 1: ", 1);
+    show_song(file, b" 2: ", 2);
+    show_song(file, b" 3: ", 3);
+    show_song(file, b" 31: ", 31);
+    show_song(file, b" 32: ", 32);
+    show_song(file, b" 33: ", 33);
+    show_song(file, b" last: ", songs as u64);
+    show_song(file, b" next: ", songs as u64 + 1);
+    show_song(file, b" greatest: ", u64::MAX);
     write(b"\n");
 }
 
@@ -160,7 +157,7 @@ fn show_pieces(title: &[u8], author: &[u8], released: &[u8], payload: &[u8]) {
     write(b"] [");
     write(released);
     write(b"]");
-    show(b"payload", payload.len());
+    write_after(b" payload ", payload.len() as u64);
     write(b"\n");
 }
 
@@ -184,7 +181,7 @@ fn tune_line(name: &[u8], file: &[u8], h: Header, n: usize) {
     let released = tune::shown(cut, h, Piece::Released);
     let payload = tune::shown(cut, h, Piece::Payload);
     write(name);
-    show(b"tune", n);
+    write_after(b" tune ", n as u64);
     show_pieces(title, author, released, payload);
 }
 
@@ -208,7 +205,8 @@ fn report_more(name: &[u8], file: &[u8]) {
     piece_line(name, file);
 }
 
-// A file's answers. Songs are asked for where there are several, and of a file of the first two that is refused.
+// A file's answers. Songs are asked for where there are several, and of a file of the first two that is
+// refused.
 fn report(name: &[u8], file: &[u8], first_two: bool) {
     let mut memory = [EMPTY; 65536];
     let answer = sid::read(file);

@@ -1,30 +1,27 @@
 // The sums of MUS files: the lines that the listing program prints of them.
 ghost use Prim.Native.Nat.{_≤_};
-use crate::show::write;
-use crate::show::write_number;
 use events::Listed;
 use mus::Reading;
+use printing::write;
+use printing::write_after;
+use printing::write_number;
+use printing::write_refusal;
 use refusals::Refusal;
 
 // More cells than a voice here has events.
 const CELLS: usize = 16;
 
-// A number and the byte behind it.
-fn show(n: u64, after: &[u8]) {
-    write_number(n);
-    write(after);
-}
-
 fn refuse(x: Refusal) {
-    show(x.number as u64, b" ");
-    show(x.place as u64, b"\n");
+    write_refusal(x);
+    write(b"\n");
 }
 
 fn show_event(voice: u32, event: usize, place: u32, jiffy: u32) {
-    show(voice as u64, b" ");
-    show(event as u64, b" ");
-    show(place as u64, b" ");
-    show(jiffy as u64, b"\n");
+    write_number(voice as u64);
+    write_after(b" ", event as u64);
+    write_after(b" ", place as u64);
+    write_after(b" ", jiffy as u64);
+    write(b"\n");
 }
 
 // The lesser of a number and what a list holds.

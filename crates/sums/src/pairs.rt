@@ -1,11 +1,7 @@
-// The sums of pairs. Where the paper names a note's first byte alone, the second is a rest; where it names the second alone, the
-// first is a plain 64th. Only what the paper's answers name has a word of its own.
-use crate::show::write;
-use crate::show::write_hex;
-use crate::show::write_number;
-use crate::show::write_refused;
-use crate::show::write_signed;
-use crate::show::write_word;
+// The sums of pairs. Where the paper names a note's first byte alone, the second is a rest; where it names
+// the second alone, the first is a plain 64th. Only what the paper's answers name has a word of its own.
+use crate::show::refused;
+use crate::show::write_bytes;
 use meaning::Accidental;
 use meaning::Duration;
 use meaning::HalfStep;
@@ -16,13 +12,16 @@ use meaning::Pitch;
 use meaning::Reading;
 use meaning::Shape;
 use meaning::Tone;
+use printing::write;
+use printing::write_number;
+use printing::write_signed;
 
-// The functions below give a word's number in this list.
+// A word and a space. The functions below give a word's number in this list.
 fn write_said(number: u8) {
-    write_word(
-        b"another quarter 64th plain double-dotted triplet - tied C F B flat natural sharp ",
-        number,
-    );
+    let words =
+        b"another quarter 64th plain double-dotted triplet - tied C F B flat natural sharp ";
+    write(fields::entry_at(words, b' ', number as usize));
+    write(b" ");
 }
 
 fn duration_number(duration: Duration) -> u8 {
@@ -66,8 +65,10 @@ fn accidental_number(accidental: Accidental) -> u8 {
 
 fn write_half_step(pitch: Pitch) {
     match meaning::half_step(pitch) {
-        HalfStep::Step(z) => write_signed(z),
-        HalfStep::Refused(x) => write_refused(x.number),
+        HalfStep::Step(z) => {
+            write_signed(z);
+        }
+        HalfStep::Refused(x) => refused(x),
     }
 }
 
@@ -92,7 +93,9 @@ fn write_note(note: Note) {
     write_said(shape_number(shape));
     write_said(tie_number(note.tied));
     match tone {
-        Tone::Rest => write(b"rest"),
+        Tone::Rest => {
+            write(b"rest");
+        }
         Tone::Sounds(pitch) => write_pitch(pitch),
     }
 }
@@ -108,19 +111,19 @@ fn write_meaning(meaning: Meaning) {
         Meaning::Ps(z) => write_command(b"P-S ", z),
         Meaning::Tps(z) => write_command(b"TPS ", z),
         Meaning::Rtp(z) => write_command(b"RTP ", z),
-        _ => write(b"another"),
+        _ => {
+            write(b"another");
+        }
     }
 }
 
 // A line of the two bytes and what they mean.
 fn show_pair(first: u8, second: u8) {
-    write_hex(first);
-    write(b" ");
-    write_hex(second);
+    write_bytes(first, b" ", second);
     write(b" ");
     match pair::read(first, second) {
         Reading::Means(meaning) => write_meaning(meaning),
-        Reading::Refused(x) => write_refused(x.number),
+        Reading::Refused(x) => refused(x),
     }
     write(b"\n");
 }

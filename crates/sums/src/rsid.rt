@@ -1,7 +1,8 @@
-// The sums of RSID: which effective init passes, given by the init field or, where that is 0, by the load address.
-use crate::show::write;
-use crate::show::write_hex;
-use crate::show::write_refused;
+// The sums of RSID: which effective init passes, given by the init field or, where that is 0, by the load
+// address.
+use crate::show::refused;
+use crate::show::write_bytes;
+use printing::write;
 use sid::Reading;
 
 fn high(n: u16) -> u8 {
@@ -12,7 +13,8 @@ fn low(n: u16) -> u8 {
     (n % 256) as u8
 }
 
-// An RSID file of one song, BASIC clear, with four payload bytes: nothing but the two addresses can have it refused.
+// An RSID file of one song, BASIC clear, with four payload bytes: nothing but the two addresses can have it
+// refused.
 fn file_of(init: u16, load: u16) -> [u8; 130] {
     let mut file = [0u8; 130];
     file[0] = b'R';
@@ -33,10 +35,9 @@ fn file_of(init: u16, load: u16) -> [u8; 130] {
     file
 }
 
-fn write_address(word: &[u8], n: u16) {
-    write(word);
-    write_hex(high(n));
-    write_hex(low(n));
+fn write_address(words: &[u8], n: u16) {
+    write(words);
+    write_bytes(high(n), b"", low(n));
 }
 
 fn show_file(init: u16, load: u16) {
@@ -45,8 +46,10 @@ fn show_file(init: u16, load: u16) {
     write_address(b" init ", init);
     write(b" ");
     match sid::read(&file) {
-        Reading::Accepted(_) => write(b"passes"),
-        Reading::Refused(x) => write_refused(x.number),
+        Reading::Accepted(_) => {
+            write(b"passes");
+        }
+        Reading::Refused(x) => refused(x),
     }
     write(b"\n");
 }

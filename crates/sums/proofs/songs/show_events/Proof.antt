@@ -1,8 +1,8 @@
 -- `show_events` is safe and ends: it goes once through the cells that are shown, which each list has.
 use Prim.Native.Nat.{_≤_, _-_}
 use native.Mathlib.Omega.{arith}
-use Rattle.bench.proofs.songs.show_events.Statement.{statement}
-use Rattle.bench.proofs.songs.show_events.Tie as tie
+use Rattle.sums.proofs.songs.show_events.Statement.{statement}
+use Rattle.sums.proofs.songs.show_events.Tie as tie
 
 abbrev Inv-loop : tie.InvT-loop
 Inv-loop voice count offsets jiffies shown i₀ i = shown ≤ 16
