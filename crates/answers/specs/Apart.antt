@@ -2,7 +2,7 @@
 -- the place below 2^32. So no value can be taken for a refusal, and no refusal for a value.
 -- Apart                        so for an outcome and the value that a call answers
 -- value-apart, refusal-apart   the two halves of an answer are 0 and the value, or the number and the place
--- Low                          a refusal with a number above 0 and a place in a file of at most 65,536 bytes
+-- LowPlace                     a refusal with a number above 0 and a place in a file of at most 65,536 bytes
 -- low-fits, unplaced-fits      such a place fits an answer, and so does 0
 -- low-apart                    where refusals are low, and values below 2^32, an answer tells them apart
 -- tests-low                    so for tests made before an outcome
@@ -23,9 +23,9 @@ abbrev pub Apart : {A : Type 0} → (A → ℕ) → Outcome A → Type 0
 Apart value (accepted a) = value a < 0x100000000
 Apart value (refused number place) = (0 < number) × (place < 0x100000000)
 
-abbrev pub Low : {A : Type 0} → Outcome A → Type 0
-Low (accepted a) = Unit
-Low (refused number place) = (0 < number) × (place ≤ 65536)
+abbrev pub LowPlace : {A : Type 0} → Outcome A → Type 0
+LowPlace (accepted a) = Unit
+LowPlace (refused number place) = (0 < number) × (place ≤ 65536)
 
 pub low-fits : {n p : ℕ} → (0 < n) × (p ≤ 65536) → p < 0x100000000
 low-fits h = omega arith
@@ -40,13 +40,13 @@ module _ {A : Type 0} (value : A → ℕ) where
   pub refusal-apart : (number place : ℕ) → Apart value (refused number place) → (packed value (refused number place) / 0x100000000 ≡ number) × (packed value (refused number place) % 0x100000000 ≡ place)
   refusal-apart number place h = (omega arith, omega arith)
 
-  pub low-apart : (o : Outcome A) → ((a : A) → o ≡ accepted a → value a < 0x100000000) → Low o → Apart value o
+  pub low-apart : (o : Outcome A) → ((a : A) → o ≡ accepted a → value a < 0x100000000) → LowPlace o → Apart value o
   low-apart (accepted a) h l = h a refl
   low-apart (refused number place) h l = (l .0, omega arith)
 
-pub tests-low : {A : Type 0} (ts : List Test) (o : Outcome A) → Low o → Low (guarded (firstOf ts) o)
+pub tests-low : {A : Type 0} (ts : List Test) (o : Outcome A) → LowPlace o → LowPlace (guarded (firstOf ts) o)
 tests-low ts o h = go (firstOf ts) refl
   where
-    go : (v : Verdict) → firstOf ts ≡ v → Low (guarded v o)
+    go : (v : Verdict) → firstOf ts ≡ v → LowPlace (guarded v o)
     go Passed e = h
     go (Failed n) e = (first-above ts n e, lit≤ tt)

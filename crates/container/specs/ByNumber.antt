@@ -1,7 +1,7 @@
 -- A refusal's number says which tests it is of: 21 to 24 are the head's.
--- Each, first-each   what holds of the number of each test holds of the number that they come to
--- head-number        the head's refusals are 24 or less
--- text-number        those of a file whose head is right are above 24
+-- EachNumber, first-each   what holds of the number of each test holds of the number that they come to
+-- head-number              the head's refusals are 24 or less
+-- text-number              those of a file whose head is right are above 24
 use Prim.Native.Nat.{ℕ, _≤_, _<_}
 use mathlib.Core.Path.{_≡_, refl, sym, subst}
 use mathlib.Core.List.{List, [], _∷_}
@@ -22,11 +22,11 @@ use Rattle.container.specs.Layout.{textIn, layoutOf, containerTests, con
 use Rattle.container.specs.Laws.{head-none}
 
 module _ (P : ℕ → Type 0) where
-  abbrev pub Each : List Test → Type 0
-  Each [] = Unit
-  Each (t ∷ ts) = P (numberOf (t .reason)) × Each ts
+  abbrev pub EachNumber : List Test → Type 0
+  EachNumber [] = Unit
+  EachNumber (t ∷ ts) = P (numberOf (t .reason)) × EachNumber ts
 
-  pub first-each : (ts : List Test) → Each ts → (n : ℕ) → firstOf ts ≡ Failed n → P n
+  pub first-each : (ts : List Test) → EachNumber ts → (n : ℕ) → firstOf ts ≡ Failed n → P n
   first-each [] h n e = absurd (let z : _≡_ {A = ℕ} 0 1 = cc in omega arith)
   first-each (t ∷ ts) h n e =
       cases (t .applies)
@@ -34,7 +34,7 @@ module _ (P : ℕ → Type 0) where
       (λ b. first-each ts (h .1) n (rw b at e))
 
 -- what tests before a value refuse, they refuse with their own number
-guarded-each : {A : Type 0} (P : ℕ → Type 0) (ts : List Test) (a : A) → Each P ts → (n p : ℕ) → guarded (firstOf ts) (accepted a) ≡ refused n p → P n
+guarded-each : {A : Type 0} (P : ℕ → Type 0) (ts : List Test) (a : A) → EachNumber P ts → (n p : ℕ) → guarded (firstOf ts) (accepted a) ≡ refused n p → P n
 guarded-each P ts a h n p e = go (firstOf ts) refl e
   where
     go : (v : Verdict) → firstOf ts ≡ v → guarded v (accepted a) ≡ refused n p → P n

@@ -19,7 +19,7 @@ use Rattle.container.specs.declared.Voices.{Voices}
 use Rattle.container.specs.declared.Layout.{Layout}
 use Rattle.container.specs.Head.{headOutcome}
 use Rattle.container.specs.Layout.{containerOutcome}
-use Rattle.container.specs.ByNumber.{Each, first-each, text-number}
+use Rattle.container.specs.ByNumber.{EachNumber, first-each, text-number}
 use Rattle.bodies.specs.Voice.{pairs}
 use Rattle.bodies.specs.Playing.{eventsOf, walkedOf}
 use Rattle.structure.specs.declared.Finding.{Finding}
@@ -41,7 +41,7 @@ Late n = 26 < n
 
 abbrev EachPair : List (List Test) → Type 0
 EachPair [] = Unit
-EachPair (ts ∷ later) = Each Late ts × EachPair later
+EachPair (ts ∷ later) = EachNumber Late ts × EachPair later
 
 pairs-late : (v : List (Outcome Meaning)) → EachPair (pairsTests v)
 unfolding pairsTests

@@ -33,27 +33,27 @@ use Rattle.mus.specs.Asked.{numberTests, songVoice, voiceAsked}
 use Rattle.mus.specs.Bounds.{InFile}
 use Rattle.mus.proofs.Outcomes.{in-file}
 use Rattle.events.specs.Listing.{callerTests, filledBy, listing}
-use Rattle.answers.specs.Apart.{Low, tests-low}
+use Rattle.answers.specs.Apart.{LowPlace, tests-low}
 use Rattle.muscalls.proofs.Numbers.{found-above}
 
 -- an outcome that comes after another
-then-low : {A B : Type 0} (o : Outcome A) (g : A → Outcome B) → Low o → ((a : A) → o ≡ accepted a → Low (g a)) → Low (andThen o g)
+then-low : {A B : Type 0} (o : Outcome A) (g : A → Outcome B) → LowPlace o → ((a : A) → o ≡ accepted a → LowPlace (g a)) → LowPlace (andThen o g)
 then-low (accepted a) g l h = h a refl
 then-low (refused n p) g l h = l
 
-found-low : {A : Type 0} (offset : ℕ) (x : Finding) (later : Outcome A) → ((n i : ℕ) → x ≡ At n i → (0 < n) × (offset + 2 * i ≤ 65536)) → Low later → Low (orFound offset x later)
+found-low : {A : Type 0} (offset : ℕ) (x : Finding) (later : Outcome A) → ((n i : ℕ) → x ≡ At n i → (0 < n) × (offset + 2 * i ≤ 65536)) → LowPlace later → LowPlace (orFound offset x later)
 found-low offset Clear later h l = l
 found-low offset (At n i) later h l = h n i refl
 
-limited-low : (offset len : ℕ) (v : List (Outcome Meaning)) → offset ≤ 65536 → Low (limited offset len (countOutcome v))
+limited-low : (offset len : ℕ) (v : List (Outcome Meaning)) → offset ≤ 65536 → LowPlace (limited offset len (countOutcome v))
 limited-low offset len v h = go (firstOf (limitTests v)) refl
   where
-    go : (x : Verdict) → firstOf (limitTests v) ≡ x → Low (limited offset len (unlessOff x (Within (eventsOf v) (walkedOf v))))
+    go : (x : Verdict) → firstOf (limitTests v) ≡ x → LowPlace (limited offset len (unlessOff x (Within (eventsOf v) (walkedOf v))))
     go Passed e = tt
     go (Failed n) e = (first-above (limitTests v) n e, h)
 
 -- a pair of a voice lies in the file
-voice-low : (f : List ℕ) (s : Span) → length f ≤ 65536 → s .from ≤ 65536 → Low (voiceIn f s)
+voice-low : (f : List ℕ) (s : Span) → length f ≤ 65536 → s .from ≤ 65536 → LowPlace (voiceIn f s)
 unfolding voiceOutcome pairsFinding structureFinding
 voice-low f s short low =
     let v = pairs (partOf f s) in
@@ -64,26 +64,26 @@ voice-low f s short low =
     inside : (i : ℕ) → i < length (pairs (partOf f s)) → s .from + 2 * i ≤ 65536
     inside i h = omega (arith, length-pairs (partOf f s), length-take (s .len) (drop (s .from) f), length-drop (s .from) f)
 
-pub mus-low : (f : List ℕ) → Low (musOutcome f)
+pub mus-low : (f : List ℕ) → LowPlace (musOutcome f)
 unfolding musOutcome containerOutcome
 mus-low f = then-low (containerOutcome f) (λ l. songIn f l) (tests-low (containerTests f) (accepted (layoutOf f)) tt) (λ l e. song-low l (in-file f l e))
   where
-    song-low : (l : Layout) → InFile f l → Low (songIn f l)
+    song-low : (l : Layout) → InFile f l → LowPlace (songIn f l)
     song-low l i =
         then-low (voiceIn f (l .voice1)) (λ v1. andThen (voiceIn f (l .voice2)) (λ v2. andThen (voiceIn f (l .voice3)) (λ v3. accepted (songWith l v1 v2 v3)))) (voice-low f (l .voice1) (i .short) (i .voice1))
         (λ v1 e1. then-low (voiceIn f (l .voice2)) (λ v2. andThen (voiceIn f (l .voice3)) (λ v3. accepted (songWith l v1 v2 v3))) (voice-low f (l .voice2) (i .short) (i .voice2))
         (λ v2 e2. then-low (voiceIn f (l .voice3)) (λ v3. accepted (songWith l v1 v2 v3)) (voice-low f (l .voice3) (i .short) (i .voice3)) (λ v3 e3. tt)))
 
-asked-low : (f : List ℕ) (voice : ℕ) → Low (voiceAsked f voice)
+asked-low : (f : List ℕ) (voice : ℕ) → LowPlace (voiceAsked f voice)
 unfolding voiceAsked
 asked-low f voice =
     tests-low (numberTests voice) (andThen (musOutcome f) (λ s. accepted (songVoice s voice))) (then-low (musOutcome f) (λ s. accepted (songVoice s voice)) (mus-low f) (λ s e. tt))
 
-pub list-low : (f : List ℕ) (voice first : ℕ) (os js : List ℕ) → Low (listing f voice first os js .answer)
+pub list-low : (f : List ℕ) (voice first : ℕ) (os js : List ℕ) → LowPlace (listing f voice first os js .answer)
 unfolding listing
 list-low f voice first os js =
     go (guarded (firstOf (callerTests voice (length os) (length js))) (voiceAsked f voice)) (tests-low (callerTests voice (length os) (length js)) (voiceAsked f voice) (asked-low f voice))
   where
-    go : (o : Outcome Voice) → Low o → Low (filledBy f first os js o .answer)
+    go : (o : Outcome Voice) → LowPlace o → LowPlace (filledBy f first os js o .answer)
     go (accepted v) l = tt
     go (refused n p) l = l

@@ -43,33 +43,33 @@ seconds-unassigned b h =
     same-equal (eqb (holding rows b) 0) (isOneOf unassignedSeconds b)
     (every-at (λ k. same (eqb (holding rows k) 0) (isOneOf unassignedSeconds k)) 256 tt b h)
 
-abbrev pub fitting : List FirstRow → ℕ → ℕ
-fitting [] a = 0
-fitting (r ∷ rs) a = one (fits (r .pattern) a) + fitting rs a
+abbrev pub rowsFitting : List FirstRow → ℕ → ℕ
+rowsFitting [] a = 0
+rowsFitting (r ∷ rs) a = one (fits (r .pattern) a) + rowsFitting rs a
 
 abbrev pub others : List FirstRow
 others = pulseRows ++ singleRows ++ joinedRows
 
-pub firsts-apart : (a : ℕ) → a < 256 → fitting others a ≤ 1
-firsts-apart a h = leb→le (fitting others a) 1 (every-at (λ k. leb (fitting others k) 1) 256 tt a h)
+pub firsts-apart : (a : ℕ) → a < 256 → rowsFitting others a ≤ 1
+firsts-apart a h = leb→le (rowsFitting others a) 1 (every-at (λ k. leb (rowsFitting others k) 1) 256 tt a h)
 
 abbrev pub unassignedFirst : ℕ → Bool
 unassignedFirst a = eqb (a % 4) 0 || eqb (a % 4) 1 || isOneOf (0x8E ∷ 0xAE ∷ 0xCE ∷ 0xEE ∷ []) a
 
 -- notes' first bytes and 01 among them, which have tables of their own
-pub firsts-unassigned : (a : ℕ) → a < 256 → eqb (fitting others a) 0 ≡ unassignedFirst a
+pub firsts-unassigned : (a : ℕ) → a < 256 → eqb (rowsFitting others a) 0 ≡ unassignedFirst a
 firsts-unassigned a h =
-    same-equal (eqb (fitting others a) 0) (unassignedFirst a)
-    (every-at (λ k. same (eqb (fitting others k) 0) (unassignedFirst k)) 256 tt a h)
+    same-equal (eqb (rowsFitting others a) 0) (unassignedFirst a)
+    (every-at (λ k. same (eqb (rowsFitting others k) 0) (unassignedFirst k)) 256 tt a h)
 
-abbrev pub between : Pitch → Bool
-between p = leZ (negsuc 0) (halfStep p) && leZ (halfStep p) (pos 96)
+abbrev pub bytesBetween : Pitch → Bool
+bytesBetween p = leZ (negsuc 0) (halfStep p) && leZ (halfStep p) (pos 96)
 
 abbrev toneBetween : Tone → Bool
 toneBetween Rest = true
-toneBetween (Sounds p) = between p
+toneBetween (Sounds p) = bytesBetween p
 
-pub step-range : (p : Pitch) → inTables p ≡ true → T (between p)
+pub step-range : (p : Pitch) → inTables p ≡ true → T (bytesBetween p)
 step-range p e =
     let reads = pitch-reads p e in
     subst (λ (t : Tone). T (toneBetween t)) (reads .0) (every-at (λ b. toneBetween (toneOf b)) 256 tt (pitchByte p) (reads .1))

@@ -1,5 +1,5 @@
 -- What has room in a list, for the functions that put text there.
--- full-after, full-placed   a full list takes no more
+-- full-after, full-placed      a full list takes no more
 -- after-after, placed-placed   one text and then another are both in one
 -- then-after, then-placed      the same of a list and a place that the first text left
 use Prim.Native.Nat.{ℕ, zero, suc, _+_, _-_, _≤_}
@@ -13,17 +13,17 @@ use borrow.Author.Tests.{leb-true, leb-false}
 use Rattle.logic.specs.Cases.{cases}
 use Rattle.fields.specs.Parts.{put}
 use Rattle.fields.specs.Laws.{length-put}
-use Rattle.printing.specs.Placing.{fitting, placed, after}
+use Rattle.printing.specs.Placing.{fitting, textPlaced, afterText}
 
 module _ (out : List ℕ) (at : ℕ) (text : List ℕ) where
   fitting-none : length out ≤ at → fitting out at text ≡ []
   unfolding fitting
   fitting-none h = let none : length out - at ≡ 0 = omega arith in rw none
 
-  pub full-after : length out ≤ at → at ≡ after out at text
+  pub full-after : length out ≤ at → at ≡ afterText out at text
   full-after h = rw (fitting-none h) (omega arith)
 
-  pub full-placed : length out ≤ at → out ≡ placed out at text
+  pub full-placed : length out ≤ at → out ≡ textPlaced out at text
   unfolding put
   full-placed h =
       let end : at + 0 ≡ at = omega arith in
@@ -52,39 +52,39 @@ put-put m at p q h =
     rw (take-at (take at m ++ p) later (at + length p) start, rest, both, append-assoc (take at m) p q)
 
 module _ (out : List ℕ) (at : ℕ) (a b : List ℕ) where
-  room : at ≤ length out → fitting out at (a ++ b) ≡ fitting out at a ++ fitting (placed out at a) (after out at a) b
+  room : at ≤ length out → fitting out at (a ++ b) ≡ fitting out at a ++ fitting (textPlaced out at a) (afterText out at a) b
   unfolding fitting
   room h =
       let fits = length-fitting out at a h in
       let same = length-put out at (fitting out at a) fits in
-      let left : length (placed out at a) - after out at a ≡ length out - at - length (fitting out at a) = omega arith in
+      let left : length (textPlaced out at a) - afterText out at a ≡ length out - at - length (fitting out at a) = omega arith in
       take-both (length out - at) a b ∙ rw left
 
-  pub after-after : after (placed out at a) (after out at a) b ≡ after out at (a ++ b)
+  pub after-after : afterText (textPlaced out at a) (afterText out at a) b ≡ afterText out at (a ++ b)
   after-after = cases (leb at (length out)) (λ e. inside (leb-true at (length out) e)) (λ e. past (leb-false at (length out) e))
     where
-      inside : at ≤ length out → after (placed out at a) (after out at a) b ≡ after out at (a ++ b)
+      inside : at ≤ length out → afterText (textPlaced out at a) (afterText out at a) b ≡ afterText out at (a ++ b)
       inside h = rw (room h) (simp length-append (omega arith))
 
-      past : suc (length out) ≤ at → after (placed out at a) (after out at a) b ≡ after out at (a ++ b)
+      past : suc (length out) ≤ at → afterText (textPlaced out at a) (afterText out at a) b ≡ afterText out at (a ++ b)
       past h =
           let full : length out ≤ at = omega arith in
           rw (← full-after out at a full, ← full-placed out at a full) (sym (full-after out at b full) ∙ full-after out at (a ++ b) full)
 
-  pub placed-placed : placed (placed out at a) (after out at a) b ≡ placed out at (a ++ b)
+  pub placed-placed : textPlaced (textPlaced out at a) (afterText out at a) b ≡ textPlaced out at (a ++ b)
   placed-placed = cases (leb at (length out)) (λ e. inside (leb-true at (length out) e)) (λ e. past (leb-false at (length out) e))
     where
-      inside : at ≤ length out → placed (placed out at a) (after out at a) b ≡ placed out at (a ++ b)
-      inside h = put-put out at (fitting out at a) (fitting (placed out at a) (after out at a) b) h ∙ rw (room h)
+      inside : at ≤ length out → textPlaced (textPlaced out at a) (afterText out at a) b ≡ textPlaced out at (a ++ b)
+      inside h = put-put out at (fitting out at a) (fitting (textPlaced out at a) (afterText out at a) b) h ∙ rw (room h)
 
-      past : suc (length out) ≤ at → placed (placed out at a) (after out at a) b ≡ placed out at (a ++ b)
+      past : suc (length out) ≤ at → textPlaced (textPlaced out at a) (afterText out at a) b ≡ textPlaced out at (a ++ b)
       past h =
           let full : length out ≤ at = omega arith in
           rw (← full-after out at a full, ← full-placed out at a full) (sym (full-placed out at b full) ∙ full-placed out at (a ++ b) full)
 
-  module _ {mid : List ℕ} {to : ℕ} (mid-is : mid ≡ placed out at a) (to-is : to ≡ after out at a) where
-    pub then-after : after mid to b ≡ after out at (a ++ b)
+  module _ {mid : List ℕ} {to : ℕ} (mid-is : mid ≡ textPlaced out at a) (to-is : to ≡ afterText out at a) where
+    pub then-after : afterText mid to b ≡ afterText out at (a ++ b)
     then-after = rw (mid-is, to-is) after-after
 
-    pub then-placed : placed mid to b ≡ placed out at (a ++ b)
+    pub then-placed : textPlaced mid to b ≡ textPlaced out at (a ++ b)
     then-placed = rw (mid-is, to-is) placed-placed

@@ -3,12 +3,12 @@
 ghost use mathlib.Core.Path.{_≡_};
 ghost use mathlib.Core.List.{_++_};
 ghost use Rattle.printing.specs.Digits.{decimal, hexDigit, hexDigits, signedDigits};
-ghost use Rattle.printing.specs.Placing.{placed, after};
+ghost use Rattle.printing.specs.Placing.{textPlaced, afterText};
 
 // internal: a text, as much of it as has room.
 pub fn put(out: &mut [u8], at: usize, text: &[u8]) -> usize
-    ensures { λ r. ⌜ r ≡ after (now (out .entry)) at (now (text .entry)) ⌝ }
-    ensures { λ _. ⌜ now (out .exit) ≡ placed (now (out .entry)) at (now (text .entry)) ⌝ }
+    ensures { λ r. ⌜ r ≡ afterText (now (out .entry)) at (now (text .entry)) ⌝ }
+    ensures { λ _. ⌜ now (out .exit) ≡ textPlaced (now (out .entry)) at (now (text .entry)) ⌝ }
 {
     if out.len() <= at {
         return at;
@@ -22,8 +22,8 @@ pub fn put(out: &mut [u8], at: usize, text: &[u8]) -> usize
 
 // internal: the decimal digits of a number.
 pub fn put_number(out: &mut [u8], at: usize, n: u64) -> usize
-    ensures { λ r. ⌜ r ≡ after (now (out .entry)) at (decimal n) ⌝ }
-    ensures { λ _. ⌜ now (out .exit) ≡ placed (now (out .entry)) at (decimal n) ⌝ }
+    ensures { λ r. ⌜ r ≡ afterText (now (out .entry)) at (decimal n) ⌝ }
+    ensures { λ _. ⌜ now (out .exit) ≡ textPlaced (now (out .entry)) at (decimal n) ⌝ }
 {
     let mut digits = [0u8; 20];
     let k = io::decimal(n, &mut digits);
@@ -32,8 +32,8 @@ pub fn put_number(out: &mut [u8], at: usize, n: u64) -> usize
 
 // internal: a text and a number after it.
 pub fn put_after(out: &mut [u8], at: usize, text: &[u8], n: u64) -> usize
-    ensures { λ r. ⌜ r ≡ after (now (out .entry)) at (now (text .entry) ++ decimal n) ⌝ }
-    ensures { λ _. ⌜ now (out .exit) ≡ placed (now (out .entry)) at (now (text .entry) ++ decimal n) ⌝ }
+    ensures { λ r. ⌜ r ≡ afterText (now (out .entry)) at (now (text .entry) ++ decimal n) ⌝ }
+    ensures { λ _. ⌜ now (out .exit) ≡ textPlaced (now (out .entry)) at (now (text .entry) ++ decimal n) ⌝ }
 {
     let to = put(out, at, text);
     put_number(out, to, n)
@@ -56,8 +56,8 @@ pub fn hex(byte: u8) -> [u8; 2]
 
 // internal: the two hex digits of a byte, in upper case.
 pub fn put_hex(out: &mut [u8], at: usize, byte: u8) -> usize
-    ensures { λ r. ⌜ r ≡ after (now (out .entry)) at (hexDigits byte) ⌝ }
-    ensures { λ _. ⌜ now (out .exit) ≡ placed (now (out .entry)) at (hexDigits byte) ⌝ }
+    ensures { λ r. ⌜ r ≡ afterText (now (out .entry)) at (hexDigits byte) ⌝ }
+    ensures { λ _. ⌜ now (out .exit) ≡ textPlaced (now (out .entry)) at (hexDigits byte) ⌝ }
 {
     let digits = hex(byte);
     put(out, at, &digits)
@@ -65,8 +65,8 @@ pub fn put_hex(out: &mut [u8], at: usize, byte: u8) -> usize
 
 // internal: a minus sign where a number is negative, and its size.
 pub fn put_signed(out: &mut [u8], at: usize, v: i32) -> usize
-    ensures { λ r. ⌜ r ≡ after (now (out .entry)) at (signedDigits v) ⌝ }
-    ensures { λ _. ⌜ now (out .exit) ≡ placed (now (out .entry)) at (signedDigits v) ⌝ }
+    ensures { λ r. ⌜ r ≡ afterText (now (out .entry)) at (signedDigits v) ⌝ }
+    ensures { λ _. ⌜ now (out .exit) ≡ textPlaced (now (out .entry)) at (signedDigits v) ⌝ }
 {
     let parts = signed::parts_of(v);
     let size = parts.size as u64;

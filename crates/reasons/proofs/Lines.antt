@@ -1,5 +1,5 @@
 -- The phrases as the code holds them, in the order of the numbers from 0 on, and the table's.
--- phrases        the phrases of the numbers below a bound
+-- phraseLines    the phrases of the numbers below a bound
 -- phrases-held   one of them by its number is the table's, of every number
 use Prim.Native.Nat.{ℕ, zero, suc, _+_, _≤_}
 use mathlib.Core.Path.{_≡_, refl, sym, ap, _∙_}
@@ -39,8 +39,8 @@ phrase-from i zero n e = sym (none-past table (i + n) refl (omega arith))
 phrase-from i (suc k) zero e = let m : i ≡ i + 0 = omega arith in ap phraseAt m
 phrase-from i (suc k) (suc n) e = let m : i + 1 + n ≡ i + suc n = omega arith in phrase-from (i + 1) k n (omega arith) ∙ ap phraseAt m
 
-abbrev pub phrases : List (List ℕ)
-phrases = phrasesFrom 0 bound
+abbrev pub phraseLines : List (List ℕ)
+phraseLines = phrasesFrom 0 bound
 
-pub phrases-held : (n : ℕ) → entryAt (entriesJoined 10 phrases) 10 n ≡ phraseAt n
-phrases-held n = let m : 0 + n ≡ n = omega arith in entry-joined 10 phrases n refl ∙ phrase-from 0 bound n refl ∙ ap phraseAt m
+pub phrases-held : (n : ℕ) → entryAt (entriesJoined 10 phraseLines) 10 n ≡ phraseAt n
+phrases-held n = let m : 0 + n ≡ n = omega arith in entry-joined 10 phraseLines n refl ∙ phrase-from 0 bound n refl ∙ ap phraseAt m

@@ -16,20 +16,20 @@ use Rattle.sid.specs.Header.{headerOf}
 use Rattle.sid.specs.Answers.{sidOutcome}
 use Rattle.sidload.specs.Loading.{loadOutcome}
 use Rattle.sidspeed.specs.Speed.{speedBit, songSpeed, speedOutcome}
-use Rattle.answers.specs.Apart.{Low, tests-low}
+use Rattle.answers.specs.Apart.{LowPlace, tests-low}
 
-pub sid-low : (f : List ℕ) → Low (sidOutcome f)
+pub sid-low : (f : List ℕ) → LowPlace (sidOutcome f)
 unfolding sidOutcome
 sid-low f = tests-low (sidTests f) (accepted (headerOf f (fieldsOf f) (payloadOf f (fieldsOf f)))) tt
 
-pub load-low : (f : List ℕ) (cells : ℕ) → Low (loadOutcome f cells)
+pub load-low : (f : List ℕ) (cells : ℕ) → LowPlace (loadOutcome f cells)
 unfolding loadOutcome
 load-low f cells = tests-low (test memorySize (not (eqb cells 65536)) ∷ []) (sidOutcome f) (sid-low f)
 
-pub speed-low : (f : List ℕ) (song : ℕ) → Low (speedOutcome f song)
+pub speed-low : (f : List ℕ) (song : ℕ) → LowPlace (speedOutcome f song)
 unfolding speedOutcome
 speed-low f song = go (sidOutcome f) (sid-low f)
   where
-    go : (o : Outcome Header) → Low o → Low (songSpeed o song)
+    go : (o : Outcome Header) → LowPlace o → LowPlace (songSpeed o song)
     go (accepted h) l = tests-low (test noSuchSong (eqb song 0 || ltb (h .songs) song) ∷ []) (accepted (speedBit (h .speed) song)) tt
     go (refused n p) l = l

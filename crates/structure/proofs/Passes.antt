@@ -1,7 +1,7 @@
 -- The two passes over the stored pairs, a pair at a time.
 -- is-last                 what the code asks for the last pair
 -- pair-failed, pair-passed, plain-passed, pair-end   27 to 29
--- held, nesting, Seen, seen-start   what is open and closed so far, as the code keeps it
+-- held, nestingAt, Seen, seen-start   what is open and closed so far, as the code keeps it
 -- step-off, step-on, step-closes, step-few, plain-on, nest-end   30 and 31
 -- number-few, none-held   what the cells are asked for, and hold at first
 use Prim.Native.Nat.{ℕ, _+_, _/_, _<_, _≤_}
@@ -64,11 +64,11 @@ pair-end bs i h = rw (pairs-end bs i h)
 abbrev pub held : List ℕ → ℕ → Bool
 held cells k = eqb (getD cells k 0) 1
 
-abbrev pub nesting : Open → List ℕ → Nesting
-nesting o cells = record { openers = openersOf o; closed = held cells }
+abbrev pub nestingAt : Open → List ℕ → Nesting
+nestingAt o cells = record { openers = openersOf o; closed = held cells }
 
 pub record Seen (bs cells : List ℕ) (o : Open) (i : ℕ) : Type 0 where
-  pub finds : firstAt i (nestingsTests (nesting o cells) (drop i (pairs bs))) ≡ structureFinding (pairs bs)
+  pub finds : firstAt i (nestingsTests (nestingAt o cells) (drop i (pairs bs))) ≡ structureFinding (pairs bs)
   pub few : Few o i
   pub cells-few : length cells ≡ 24
 
@@ -100,10 +100,10 @@ module _ (bs cells : List ℕ) (o : Open) (i : ℕ) (s : Seen bs cells o i) (h :
   nest-failed m e = sym (s .finds) ∙ rw (pairs-cons bs i h, asked-once z o (held cells) ∙ e)
 
   passed : verdict′ ≡ Passed
-      → firstAt (i + 1) (nestingsTests (nestingAfter z (nesting o cells)) (drop (i + 1) (pairs bs))) ≡ structureFinding (pairs bs)
+      → firstAt (i + 1) (nestingsTests (nestingAfter z (nestingAt o cells)) (drop (i + 1) (pairs bs))) ≡ structureFinding (pairs bs)
   unfolding firstAt nestingsTests
   passed e =
-      let on : firstAt i (nestingsTests (nesting o cells) (drop i (pairs bs))) ≡ firstAt (i + 1) (nestingsTests (nestingAfter z (nesting o cells)) (drop (i + 1) (pairs bs))) = rw (pairs-cons bs i h, asked-once z o (held cells) ∙ e) in
+      let on : firstAt i (nestingsTests (nestingAt o cells) (drop i (pairs bs))) ≡ firstAt (i + 1) (nestingsTests (nestingAfter z (nestingAt o cells)) (drop (i + 1) (pairs bs))) = rw (pairs-cons bs i h, asked-once z o (held cells) ∙ e) in
       sym on ∙ s .finds
 
   nest-on : (p : Open) → verdict′ ≡ Passed → Moves z o p → ((f : ℕ → Bool) → closedAfter z (openersOf o) f ≡ f) → Seen bs cells p (i + 1)

@@ -10,7 +10,7 @@ use Rattle.mus.specs.Song.{outcomeOfSong}
 use Rattle.answers.specs.Answers.{packed, listAfter}
 use Rattle.fields.specs.Parts.{front}
 use Rattle.muscalls.specs.Lists.{songNumbers}
-use Rattle.answers.specs.Apart.{Low, low-fits}
+use Rattle.answers.specs.Apart.{LowPlace, low-fits}
 use Rattle.muscalls.proofs.Places.{mus-low}
 use Rattle.muscalls.proofs.Accepted.{narrow-song}
 use Rattle.muscalls.proofs.accept.Statement.{statement}
@@ -18,7 +18,7 @@ use Rattle.muscalls.proofs.accept.Tie as tie
 
 refused-requires : tie.Need-refused-requires
 refused-requires c κs =
-    low-fits (subst Low (sym (c .before .before .before .accept .ensures) ∙ ap outcomeOfSong (c .before .x .given .1)) (mus-low _))
+    low-fits (subst LowPlace (sym (c .before .before .before .accept .ensures) ∙ ap outcomeOfSong (c .before .x .given .1)) (mus-low _))
 
 song-numbers-requires : tie.Need-song-numbers-requires
 song-numbers-requires c κs =

@@ -10,7 +10,7 @@ use Rattle.sid.specs.Answers.{outcomeOfTune}
 use Rattle.answers.specs.Answers.{packed, listAfter}
 use Rattle.fields.specs.Parts.{front}
 use Rattle.sidcalls.specs.Lists.{headerNumbers}
-use Rattle.answers.specs.Apart.{Low, low-fits}
+use Rattle.answers.specs.Apart.{LowPlace, low-fits}
 use Rattle.sidcalls.proofs.Places.{sid-low}
 use Rattle.sidcalls.proofs.Accepted.{narrow-header}
 use Rattle.sidcalls.proofs.fields.Statement.{statement}
@@ -18,7 +18,7 @@ use Rattle.sidcalls.proofs.fields.Tie as tie
 
 refused-requires : tie.Need-refused-requires
 refused-requires c κs =
-    low-fits (subst Low (sym (c .before .before .before .read .ensures) ∙ ap outcomeOfTune (c .before .x .given .1)) (sid-low _))
+    low-fits (subst LowPlace (sym (c .before .before .before .read .ensures) ∙ ap outcomeOfTune (c .before .x .given .1)) (sid-low _))
 
 header-numbers-requires : tie.Need-header-numbers-requires
 header-numbers-requires c κs =

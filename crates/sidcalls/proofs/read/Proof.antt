@@ -3,14 +3,14 @@ use borrow.Author.Needs.{needs}
 use Rattle.sid.specs.Answers.{outcomeOfTested}
 use Rattle.sid.specs.Laws.{read-headed}
 use Rattle.answers.specs.Answers.{packed, noValue}
-use Rattle.answers.specs.Apart.{Low, low-fits}
+use Rattle.answers.specs.Apart.{LowPlace, low-fits}
 use Rattle.sidcalls.proofs.Places.{sid-low}
 use Rattle.sidcalls.proofs.read.Statement.{statement}
 use Rattle.sidcalls.proofs.read.Tie as tie
 
 refused-requires : tie.Need-refused-requires
 refused-requires c κs =
-    low-fits (subst Low (sym (read-headed _ _ (ap outcomeOfTested (sym (c .before .x .given .1)) ∙ c .before .before .before .test .ensures))) (sid-low _))
+    low-fits (subst LowPlace (sym (read-headed _ _ (ap outcomeOfTested (sym (c .before .x .given .1)) ∙ c .before .before .before .test .ensures))) (sid-low _))
 
 returns : tie.Need-returns
 returns c =

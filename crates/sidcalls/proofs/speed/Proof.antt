@@ -2,14 +2,14 @@ use mathlib.Core.Path.{sym, ap, _∙_, subst}
 use borrow.Author.Needs.{needs}
 use Rattle.sidspeed.specs.Speed.{outcomeOfSpeed}
 use Rattle.answers.specs.Answers.{packed}
-use Rattle.answers.specs.Apart.{Low, low-fits}
+use Rattle.answers.specs.Apart.{LowPlace, low-fits}
 use Rattle.sidcalls.proofs.Places.{speed-low}
 use Rattle.sidcalls.proofs.speed.Statement.{statement}
 use Rattle.sidcalls.proofs.speed.Tie as tie
 
 refused-requires : tie.Need-refused-requires
 refused-requires c κs =
-    low-fits (subst Low (sym (c .before .before .before .speed-of-song .ensures) ∙ ap outcomeOfSpeed (c .before .x .given .1)) (speed-low _ _))
+    low-fits (subst LowPlace (sym (c .before .before .before .speed-of-song .ensures) ∙ ap outcomeOfSpeed (c .before .x .given .1)) (speed-low _ _))
 
 returns : tie.Need-returns
 returns c =
