@@ -49,7 +49,8 @@ pub fn list_voice(
                 let event = turn::turn_at(voice, base, at, now);
                 cursor = cells::put(cursor, event.offset, event.jiffy, offsets, jiffies);
                 now = event.after;
-                place = Place { at: at + 1, depth };
+                let next = at + 1;
+                place = Place { at: next, depth };
             }
             Next::Structure(m) => {
                 let body = noted::body_of(m, at, &mut starts);

@@ -30,8 +30,8 @@ turn-at-requires c κs = let t = c .before .before .before in listing-timed (t .
 put-requires : tie.Need-put-requires Inv-loop μ-loop
 put-requires c κs = let t = c .before .before .before .before .before .before in listing-room (t .before .before .loop .inv) (t .if1 .taken)
 
-add-t26 : tie.Need-add-t26 Inv-loop μ-loop
-add-t26 c =
+add-next : tie.Need-add-next Inv-loop μ-loop
+add-next c =
     let t = c .before .before .before .before .before .before .before .before .before .before .before .before in
     let now = listing-timed (t .before .before .loop .inv) (t .if1 .taken) in
     omega (arith, now .there, now .short)
@@ -99,7 +99,7 @@ list-voice-spec =
     (λ c. search needs)
     turn-at-requires
     put-requires
-    add-t26
+    add-next
     loop-less
     loop-again
     (λ c. search needs)
