@@ -104,7 +104,8 @@ firstAgain a = firstByte (noteOf a 0 .duration) (noteOf a 0 .shape) (noteOf a 0 
 abbrev secondAgain : ℕ → Byte
 secondAgain b = toneByte (toneOf b)
 
--- what is computed at each byte: the writer's byte for it is the preferred one, for a first byte with low bits 00
+-- what is computed at each byte: the writer's byte for it is the preferred one, for a first byte with low
+-- bits 00
 abbrev firstTest : ℕ → Bool
 firstTest a = not (eqb (a % 4) 0) || isByte (firstAgain a) (preferredFirst a)
 

@@ -19,7 +19,7 @@ enum Shown {
 }
 
 // One line a case, in source 004's order.
-fn told(meaning: Meaning) -> Shown {
+fn worded(meaning: Meaning) -> Shown {
     match meaning {
         Meaning::Note(note) => Shown::Note(note),
         Meaning::Dcy(v) => Shown::Count(0, v),
@@ -105,7 +105,7 @@ fn put_valued(out: &mut [u8], at: usize, number: u8, value: i32) -> usize {
 }
 
 pub fn put_meaning(out: &mut [u8], at: usize, meaning: Meaning) -> usize {
-    match told(meaning) {
+    match worded(meaning) {
         Shown::Note(note) => put_note(out, at, note),
         Shown::Bare(n) => put_name(out, at, n),
         Shown::Count(n, v) => put_valued(out, at, n, v as i32),

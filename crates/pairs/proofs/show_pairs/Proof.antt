@@ -1,5 +1,5 @@
--- `show_pairs` is safe and ends: it goes once through the pairs, and a line leaves the buffer's length as it was. Assumes
--- nothing.
+-- `show_pairs` is safe and ends: it goes once through the pairs, and a line leaves the buffer's length as it
+-- was. Assumes nothing.
 use Prim.Native.Nat.{_≤_, _*_, _-_}
 use mathlib.Core.Path.{_≡_}
 use native.Mathlib.Omega.{arith}

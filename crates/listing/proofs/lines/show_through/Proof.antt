@@ -1,4 +1,5 @@
--- `show_through` is safe and ends: it goes once through the cells, of which each list has as many as are shown at most.
+-- `show_through` is safe and ends: it goes once through the cells, of which each list has as many as are
+-- shown at most.
 use Prim.Native.Nat.{_≤_, _-_}
 use mathlib.Core.Path.{_≡_}
 use native.Mathlib.Omega.{arith}
