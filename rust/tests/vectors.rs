@@ -15,7 +15,7 @@ fn path(rest: &str) -> PathBuf {
         .join(rest)
 }
 
-/// What a program must print, line by line; lines behind a text with a line feed in it are cut.
+/// What a program must print, line by line; lines after a text with a line feed in it are cut.
 fn lines(name: &str) -> Vec<String> {
     let bytes = fs::read(path(name)).expect("the stored run is there");
     let text = String::from_utf8_lossy(&bytes).into_owned();

@@ -1,4 +1,4 @@
--- A body whose DEFs and CALs are in order, read in one pass, comes to what its interpretation says.
+-- A body whose DEFs and CALs are in order, read in one pass, gives what its interpretation says.
 -- one-pass         of a body
 -- one-pass-voice   of a voice
 use Prim.Native.Nat.{ℕ}
@@ -9,19 +9,19 @@ use Rattle.meaning.specs.declared.Meaning.{Meaning}
 use Rattle.refusals.specs.Numbers.{Outcome}
 use Rattle.bodies.specs.Bodies.{Body, done, event, repeat, phrase, call, bodyOf}
 use Rattle.bodies.specs.Playing.{Interpretation, interpret, learn, phrases, phrasesOf, ofVoice}
-use Rattle.bodies.specs.Order.{also, closes, Ordered, noneClosed, Sound}
+use Rattle.bodies.specs.Order.{also, closedIn, Ordered, noneClosed, Sound}
 use Rattle.bodies.specs.OnePass.{reading}
 use Rattle.bodies.proofs.Phrases.{closed-more, closed-kept, flat-closes, flat-phrases, Agree, agree, keep}
 
 module _ {A : Type 0} (m : Interpretation A) where
-  one-pass : (K : ℕ → Bool) (ρ σ : ℕ → A) (b : Body) → Ordered K b → Agree m (closes K b) (phrases m ρ b) σ
+  one-pass : (K : ℕ → Bool) (ρ σ : ℕ → A) (b : Body) → Ordered K b → Agree m (closedIn K b) (phrases m ρ b) σ
       → (reading m ρ b .total ≡ interpret m σ b) × (reading m ρ b .phrases ≡ phrases m ρ b)
-  unfolding reading interpret phrases closes Ordered
+  unfolding reading interpret phrases closedIn Ordered
   one-pass K ρ σ (done c) o a = (refl, refl)
   one-pass K ρ σ (event e r) o a = let x = one-pass K ρ σ r o a in (ap (m .plain e) (x .0), x .1)
   one-pass K ρ σ (repeat n i r) o a =
-      let x = one-pass K ρ σ i (o .0) (λ k h. sym (keep m (closes K i) (phrases m ρ i) r k (o .1) h) ∙ a k (closed-kept k (closes K i) r h)) in
-      let y = one-pass (closes K i) (phrases m ρ i) σ r (o .1) a in
+      let x = one-pass K ρ σ i (o .0) (λ k h. sym (keep m (closedIn K i) (phrases m ρ i) r k (o .1) h) ∙ a k (closed-kept k (closedIn K i) r h)) in
+      let y = one-pass (closedIn K i) (phrases m ρ i) σ r (o .1) a in
       (rw (x .1) (cc (x .0, y .0)), ap (λ (τ : ℕ → A). reading m τ r .phrases) (x .1) ∙ y .1)
   one-pass K ρ σ (phrase j i r) o a =
       let own = one-pass K ρ ρ i (o .2) (λ k h. rw (flat-phrases m ρ i (o .1))) in

@@ -1,7 +1,7 @@
 -- The pairs of a voice by number, and the bodies that are open at one.
 -- length-pairs          a voice of n bytes has n / 2 pairs
 -- pairs-from, pairs-cons, pairs-end   the pairs from a number on
--- plain-event           what is plain is an event
+-- plain-pair-event      what is plain is an event
 -- open-cons, open-end   what is open at a pair, from what is open after it
 -- event-at, hlt-at, bad-at, hed-at, tal-at, def-at, end-at, cal-at   so for each kind of pair
 use Prim.Native.Nat.{ℕ, zero, suc, _+_, _*_, _/_, _<_, _≤_}
@@ -47,9 +47,9 @@ pairs-cons bs i h =
 pub pairs-end : (bs : List ℕ) (i : ℕ) → length bs / 2 ≤ i → drop i (pairs bs) ≡ []
 pairs-end bs i h = drop-of-length-le (pairs bs) {i = i} (omega (arith, length-pairs bs))
 
-pub plain-event : (bs : List ℕ) (i : ℕ) → plainAt bs i ≡ true → kindOf (pairAt bs i) ≡ Kind.Event
+pub plain-pair-event : (bs : List ℕ) (i : ℕ) → plainAt bs i ≡ true → kindOf (pairAt bs i) ≡ Kind.Event
 unfolding plainAt pairAt
-plain-event bs i e = plain.plain-event (getD bs (2 * i) 0) (getD bs (2 * i + 1) 0) e
+plain-pair-event bs i e = plain.plain-event (getD bs (2 * i) 0) (getD bs (2 * i + 1) 0) e
 
 pub open-cons : (bs : List ℕ) (i : ℕ) → i < length bs / 2
     → openAt (pairs bs) i ≡ withPair (eventAt i (pairAt bs i)) (kindOf (pairAt bs i)) (openAt (pairs bs) (i + 1))

@@ -5,7 +5,7 @@
 --                             TAL, 4 HLT
 -- reel                        0 a note, 1 DEF 1, 2 a note, 3 a note, 4 END, 5 HED 2, 6 CAL 1, 7 a note, 8
 --                             TAL, 9 HLT
--- bench-played, reel-played   what they come to: the reel walks 1 + (2 + 2) + (1 + 2 × ((2 + 2) + 1 + 1)) + 1
+-- bench-played, reel-played   what they give: the reel walks 1 + (2 + 2) + (1 + 2 × ((2 + 2) + 1 + 1)) + 1
 --                             pairs, and is a call in a repeat deep
 use Prim.Native.Nat.{ℕ}
 use mathlib.Core.Path.{_≡_, refl}

@@ -1,8 +1,8 @@
 -- A body read in stored order, each phrase's value kept when its END is met and looked up at each CAL. For
--- code that plays nothing out; proofs/OnePass.antt shows that in an accepted voice it comes to what
+-- code that plays nothing out; proofs/OnePass.antt shows that in an accepted voice it gives what
 -- Playing.antt defines.
--- Read      what a body comes to, and what the phrases closed by then do
--- reading   a body, where calls k is what the phrase k closed before it comes to
+-- Read      what is made of a body, and of the phrases closed by then
+-- reading   a body, where calls k is what is made of the phrase k closed before it
 use Prim.Native.Nat.{ℕ}
 use Rattle.bodies.specs.Bodies.{Body, done, event, repeat, phrase, call}
 use Rattle.bodies.specs.Playing.{Interpretation, learn}

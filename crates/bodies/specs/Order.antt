@@ -1,7 +1,7 @@
 -- Document 01, 'Playing a voice': what a voice that 30 does not refuse has shown of its bodies, for the laws
 -- about them.
 -- also          the numbers closed by END, and one more
--- closes        the numbers closed after a body, where some are closed before it
+-- closedIn      the numbers closed after a body, where some are closed before it
 -- Flat          no DEF stands in a body
 -- Ordered       'DEF in DEF; a number defined twice in the voice; CAL of a number not yet closed by END':
 --               none of these
@@ -23,12 +23,12 @@ use Rattle.bodies.specs.Bodies.{Closer, byTal, byEnd, byStop, Body, done
 abbrev pub also : ℕ → (ℕ → Bool) → ℕ → Bool
 also k closed j = eqb k j || closed j
 
-unfoldable pub closes : (ℕ → Bool) → Body → ℕ → Bool
-closes closed (done c) = closed
-closes closed (event e r) = closes closed r
-closes closed (repeat n i r) = closes (closes closed i) r
-closes closed (phrase k i r) = closes (also k closed) r
-closes closed (call k r) = closes closed r
+unfoldable pub closedIn : (ℕ → Bool) → Body → ℕ → Bool
+closedIn closed (done c) = closed
+closedIn closed (event e r) = closedIn closed r
+closedIn closed (repeat n i r) = closedIn (closedIn closed i) r
+closedIn closed (phrase k i r) = closedIn (also k closed) r
+closedIn closed (call k r) = closedIn closed r
 
 unfoldable pub Flat : Body → Type 0
 Flat (done c) = Unit
@@ -40,7 +40,7 @@ Flat (call k r) = Flat r
 unfoldable pub Ordered : (ℕ → Bool) → Body → Type 0
 Ordered closed (done c) = Unit
 Ordered closed (event e r) = Ordered closed r
-Ordered closed (repeat n i r) = Ordered closed i × Ordered (closes closed i) r
+Ordered closed (repeat n i r) = Ordered closed i × Ordered (closedIn closed i) r
 Ordered closed (phrase k i r) = (closed k ≡ false) × Flat i × Ordered closed i × Ordered (also k closed) r
 Ordered closed (call k r) = (closed k ≡ true) × Ordered closed r
 

@@ -1,11 +1,11 @@
 -- Document 01, 'Playing a voice': the played-out voice, its events, the pairs walked and the depth, by
 -- recursion over bodies.
--- Interpretation      what a body's parts come to: nothing more, an event, a repeat, a DEF where it stands
+-- Interpretation      what is made of a body's parts: nothing more, an event, a repeat, a DEF where it stands
 --                     and a CAL, each before the rest of the body
--- interpret           what a body comes to, where calls k is what CAL k comes to
--- learn, phrases      what the bodies of the DEFs in a body come to, by number, each where it is defined
+-- interpret           what is made of a body, where calls k is what is made of CAL k
+-- learn, phrases      what is made of the bodies of the DEFs in a body, by number, each where it is defined
 -- phrasesOf           so for a whole voice
--- ofVoice             what a voice comes to, its CALs by its DEFs: 'CAL k gives one copy of the body of DEF
+-- ofVoice             what is made of a voice, its CALs by its DEFs: 'CAL k gives one copy of the body of DEF
 --                     k'
 -- copies              'n copies of the body played out, one behind the other'
 -- playing, played     'An event gives itself. HED n, its body and its TAL give n copies .. DEF k, its body

@@ -9,8 +9,6 @@ use lib.ListN.{length, take, length-take}
 use lib.Seq.{getD-take}
 use Rattle.fields.specs.Numbers.{be16, be32}
 use Rattle.sid.proofs.CutOff as sid
-use Rattle.container.specs.Head.{headOutcome}
-use Rattle.container.specs.Laws.{long-head}
 use Rattle.mus.specs.Laws as mus
 use Rattle.card.specs.Judging.{judged}
 
@@ -18,8 +16,5 @@ magic-take : (f : List ℕ) (n : ℕ) → 4 ≤ n → be32 (take n f) 0 ≡ be32
 unfolding be32 be16
 magic-take f n h = rw (getD-take n f 0 0 (omega arith), getD-take n f 1 0 (omega arith), getD-take n f 2 0 (omega arith), getD-take n f 3 0 (omega arith))
 
-head-cut : (f : List ℕ) (n : ℕ) → 65536 < length f → 65536 < n → headOutcome (take n f) ≡ headOutcome f
-head-cut f n h g = long-head (take n f) (omega (arith, length-take n f)) ∙ sym (long-head f h)
-
 pub judged-cut : (f : List ℕ) (n : ℕ) → 65663 ≤ n → n ≤ length f → judged (take n f) ≡ judged f
-judged-cut f n h k = rw (magic-take f n (omega arith), sid.cut-off f n h k, head-cut f n (omega arith) (omega arith), mus.cut-off f n (omega arith) (omega arith))
+judged-cut f n h k = rw (magic-take f n (omega arith), sid.cut-off f n h k, mus.song-cut-off f n (omega arith) (omega arith))

@@ -1,6 +1,6 @@
 -- docs/DECISIONS.md, 'What kind a file is': by the file's bytes alone.
--- Judgement     what a file is and comes to: accepted with what it says of itself, or refused with a number
---               and a place
+-- Judgement     what a file is, and whether it is accepted: with what it says of itself, or with the number
+--               and the place of its refusal
 -- judgementOf   what an answer says
 -- asTune        a file that begins with PSID or RSID: what document 01, 'PSID and RSID', answers
 -- asSong        any other file: a song where 21 to 24 do not apply to it as a MUS song, and else neither
@@ -8,8 +8,8 @@
 use Prim.Native.Nat.{ℕ}
 use mathlib.Core.List.{List}
 use mathlib.Core.Bool.{cond}
-use lib.Dec.{eqb}
-use Rattle.refusals.specs.Numbers.{Outcome}
+use lib.Dec.{eqb, leb}
+use Rattle.refusals.specs.Numbers.{Outcome, numberOf, voicesPastFile}
 use Rattle.refusals.specs.Numbers.Outcome.{accepted, refused}
 use Rattle.fields.specs.Numbers.{be32}
 use Rattle.sidheader.specs.Fields.{psid, rsid}
@@ -17,8 +17,6 @@ use Rattle.sid.specs.declared.Kind.{Kind}
 use Rattle.sid.specs.declared.Kind.the-variants.{Psid, Rsid}
 use Rattle.sid.specs.declared.Header.{Header}
 use Rattle.sid.specs.Answers.{sidOutcome}
-use Rattle.container.specs.declared.Voices.{Voices}
-use Rattle.container.specs.Head.{headOutcome}
 use Rattle.mus.specs.declared.Song.{Song}
 use Rattle.mus.specs.Song.{musOutcome}
 use Rattle.card.specs.declared.Judged.{Judged}
@@ -42,12 +40,11 @@ abbrev pub asTune : Kind → Outcome Header → Judgement
 asTune kind (accepted h) = tune h
 asTune kind (refused number place) = refusedTune kind number place
 
-abbrev pub asSong : Outcome Voices → Outcome Song → Judgement
-asSong (refused number place) o = neither number place
-asSong (accepted v) (accepted s) = song s
-asSong (accepted v) (refused number place) = refusedSong number place
+abbrev pub asSong : Outcome Song → Judgement
+asSong (accepted s) = song s
+asSong (refused number place) = cond (leb number (numberOf voicesPastFile)) (neither number place) (refusedSong number place)
 
 abbrev pub judged : List ℕ → Judgement
 judged f =
     cond (eqb (be32 f 0) psid) (asTune Psid (sidOutcome f))
-    (cond (eqb (be32 f 0) rsid) (asTune Rsid (sidOutcome f)) (asSong (headOutcome f) (musOutcome f)))
+    (cond (eqb (be32 f 0) rsid) (asTune Rsid (sidOutcome f)) (asSong (musOutcome f)))

@@ -1,15 +1,14 @@
 -- Every file that a reader accepts is judged so: no tune and no song is lost by the way its kind is found.
--- tune-judged                  a file that is accepted as PSID or RSID
--- song-judged                  a file that is accepted as MUS: begun with PSID or RSID, the length of its
---                              first voice would be odd (23)
--- byNumber, judged-by-number   a MUS reader's own refusal tells the same: its number is 24 or less where the
---                              file is neither
+-- tune-judged   a file that is accepted as PSID or RSID
+-- song-judged   a file that is accepted as MUS: begun with PSID or RSID, the length of its first voice would
+--               be odd (23)
+-- byHead, by-head, by-outcomes   the same by the tests 21 to 24 alone (`headOutcome`), as the code goes
 use Prim.Native.Nat.{ℕ, _+_, _*_, _<_, _%_}
 use mathlib.Core.Path.{_≡_, refl, sym, subst}
-use mathlib.Core.Bool.{false≢true, cond}
+use mathlib.Core.Bool.{false≢true}
 use mathlib.Core.List.{List}
 use native.Mathlib.Omega.{arith}
-use lib.Dec.{eqb, leb, lit<}
+use lib.Dec.{eqb, lit<}
 use lib.ListN.{getD}
 use borrow.Author.Tests.{eqb-false, ne-eqb, le-leb, lt-leb}
 use Rattle.logic.specs.Cases.{cases}
@@ -25,7 +24,6 @@ use Rattle.sid.specs.Laws.{accepted-none}
 use Rattle.container.specs.declared.Voices.{Voices}
 use Rattle.container.specs.Head.{headOf, badLength, headOutcome}
 use Rattle.container.specs.Layout.{containerTests}
-use Rattle.container.specs.Laws.{layout-head}
 use Rattle.container.specs.ByNumber.{head-number}
 use Rattle.mus.specs.declared.Song.{Song}
 use Rattle.mus.specs.Song.{musOutcome}
@@ -74,19 +72,24 @@ module _ (f : List ℕ) (s : Song) (e : musOutcome f ≡ accepted s) (low : getD
   no-rsid q = no-letters (low-half (getD f 0 0 * 256 + getD f 1 0) (getD f 2 0 * 256 + getD f 3 0) 0x5253 0x4944 (omega (arith, low, high)) (lit< tt) q)
 
   pub song-judged : judged f ≡ judging.Judgement.song s
-  song-judged = rw (ne-eqb (be32 f 0) psid no-psid, ne-eqb (be32 f 0) rsid no-rsid, layout-head f (accepted-clear f s e .0 .container), e)
+  song-judged = rw (ne-eqb (be32 f 0) psid no-psid, ne-eqb (be32 f 0) rsid no-rsid, e)
 
-abbrev pub byNumber : Outcome Song → Judgement
-byNumber (accepted s) = judging.Judgement.song s
-byNumber (refused number place) = cond (leb number 24) (judging.Judgement.neither number place) (judging.Judgement.refusedSong number place)
+abbrev pub byHead : Outcome Voices → Outcome Song → Judgement
+byHead (refused number place) o = judging.Judgement.neither number place
+byHead (accepted v) (accepted s) = judging.Judgement.song s
+byHead (accepted v) (refused number place) = judging.Judgement.refusedSong number place
 
-pub judged-by-number : (f : List ℕ) → asSong (headOutcome f) (musOutcome f) ≡ byNumber (musOutcome f)
-judged-by-number f = go (headOutcome f) refl
+pub by-head : (f : List ℕ) → byHead (headOutcome f) (musOutcome f) ≡ asSong (musOutcome f)
+by-head f = go (headOutcome f) refl
   where
-    above : (v : Voices) (o : Outcome Song) → Above 24 o → asSong (accepted v) o ≡ byNumber o
+    above : (v : Voices) (o : Outcome Song) → Above 24 o → byHead (accepted v) o ≡ asSong o
     above v (accepted s) h = refl
     above v (refused n p) h = rw (lt-leb n 24 h)
 
-    go : (o : Outcome Voices) → headOutcome f ≡ o → asSong o (musOutcome f) ≡ byNumber (musOutcome f)
+    go : (o : Outcome Voices) → headOutcome f ≡ o → byHead o (musOutcome f) ≡ asSong (musOutcome f)
     go (accepted v) e = above v (musOutcome f) (head-above f v e)
     go (refused n p) e = rw (head-refused f n p e, le-leb n 24 (head-number f n p e))
+
+-- so for what the code has asked for
+pub by-outcomes : (f : List ℕ) {h : Outcome Voices} {o : Outcome Song} → h ≡ headOutcome f → o ≡ musOutcome f → byHead h o ≡ asSong (musOutcome f)
+by-outcomes f eh eo = rw (eh, eo) (by-head f)

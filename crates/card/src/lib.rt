@@ -2,7 +2,6 @@
 // answers for every file.
 ghost use mathlib.Core.Path.{_≡_};
 ghost use Rattle.sid.specs.Answers.{sidOutcome};
-ghost use Rattle.container.specs.Head.{headOutcome};
 ghost use Rattle.mus.specs.Song.{musOutcome};
 ghost use Rattle.card.specs.Judging.{judgementOf, asTune, asSong, judged};
 use container::Heading;
@@ -33,7 +32,7 @@ fn as_tune(file: &[u8], kind: Kind) -> Judged
 
 // Any other file: a song where its first eight bytes describe it as one.
 fn as_song(file: &[u8]) -> Judged
-    ensures { λ r. ⌜ judgementOf r ≡ asSong (headOutcome (now (file .entry))) (musOutcome (now (file .entry))) ⌝ }
+    ensures { λ r. ⌜ judgementOf r ≡ asSong (musOutcome (now (file .entry))) ⌝ }
 {
     match container::read_head(file) {
         Heading::Refused(x) => Judged::Neither(x),

@@ -59,13 +59,11 @@ pub fn tune(file: &[u8], h: Header) {
 // A song that is accepted.
 pub fn song(file: &[u8], s: Song) {
     let line = s.line1;
-    let from = line.from;
-    let len = line.len;
     write_after(b": MUS accepted: voices of ", s.voice1.events as u64);
     write_after(b", ", s.voice2.events as u64);
     write_after(b" and ", s.voice3.events as u64);
     write(b" events, ");
-    quote(fields::part(file, from, len));
+    quote(fields::span_part(file, line));
     write(b"\n");
 }
 

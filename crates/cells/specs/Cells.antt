@@ -1,5 +1,5 @@
 -- Two lists filled in step, for the contract of the code that does it; proofs/Filling.antt shows that this
--- comes to the window of Window.antt.
+-- is the window of Window.antt.
 -- cursorAfter   the cursor after one event: it is passed over, or its cells are filled
 -- cellsAfter    a list after it
 use Prim.Native.Nat.{_+_, _-_}

@@ -1,5 +1,5 @@
 // How long an event lasts, exactly, in 384ths of a jiffy, and which values hold after it, by its pair's two
-// bytes. Internal: for our other crates.
+// bytes. Internal.
 ghost use mathlib.Core.Path.{_≡_};
 ghost use Rattle.pair.specs.Pairs.{meaningOf};
 ghost use Rattle.clock.specs.Lengths.{atStart, lengthOf, valuesAfter};

@@ -1,8 +1,8 @@
 -- Each meaning that some pair has, has a code of 32 bits, and the code's meaning is that one.
--- plain-code, negative-code   the code of a command's number and value, taken apart
--- room                        whether a code's digits have room for a command's number and its values
+-- unsigned-code, negative-code   the code of a command's number and value, taken apart
+-- room    whether a code's digits have room for a command's number and its values
 -- count-coded, fixed-coded, signed-coded, note-coded   a command of any value, of few, with a sign; a note
--- coded                       so for every meaning that some pair has
+-- coded   so for every meaning that some pair has
 use Prim.Native.Nat.{ℕ, _+_, _*_, _-_, _/_, _%_, _≤_, _<_}
 use mathlib.Core.Path.{_≡_, refl, _∙_, ap}
 use mathlib.Core.Bool.{Bool, true, false, _&&_}
@@ -44,9 +44,9 @@ digit-1 : (k : ℕ) → (k * 0x10 + 1) % 0x10 ≡ 1
 digit-1 k = omega arith
 
 module _ (id v : ℕ) (least : 0x200 ≤ id) (most : id < 0x400) (small : v ≤ 65535) where
-  pub plain-code : decoded (count id v) ≡ commandAt unsignedCommands id v
+  pub unsigned-code : decoded (count id v) ≡ commandAt unsignedCommands id v
   unfolding decoded
-  plain-code =
+  unsigned-code =
       let n = count id v in
       let at : n / 0x100000 ≡ id = omega arith in
       let value : n % 0x10000 ≡ v = omega arith in
@@ -75,7 +75,7 @@ roomy id most e =
 pub count-coded : {m : Meaning} {most : ℕ} (id v : ℕ) → v ≤ most → room id most ≡ true → codeOf m ≡ count id v → commandAt unsignedCommands id v ≡ accepted m → Coded m
 count-coded {m} {most} id v small fits is means =
     let r = roomy id most fits in
-    record { low = omega (arith, is); back = ap decoded is ∙ plain-code id v (r .0) (r .1) (omega arith) ∙ means }
+    record { low = omega (arith, is); back = ap decoded is ∙ unsigned-code id v (r .0) (r .1) (omega arith) ∙ means }
 
 -- a command whose value is one of few, or none
 fixed-coded : {m : Meaning} (id v : ℕ) → room id v ≡ true → codeOf m ≡ count id v → commandAt unsignedCommands id v ≡ accepted m → Coded m
@@ -87,7 +87,7 @@ signed-coded m id (pos n) small fits is plus minus =
     let r = roomy id 0 fits in
     record {
       low = omega (arith, is (pos n));
-      back = ap decoded (is (pos n)) ∙ plain-code id n (r .0) (r .1) small ∙ plus n ∙ ap (λ (y : ℤ). accepted (m y)) (up n);
+      back = ap decoded (is (pos n)) ∙ unsigned-code id n (r .0) (r .1) small ∙ plus n ∙ ap (λ (y : ℤ). accepted (m y)) (up n);
     }
 signed-coded m id (negsuc n) small fits is plus minus =
     let r = roomy id 0 fits in

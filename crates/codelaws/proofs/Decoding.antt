@@ -135,8 +135,8 @@ above-right m id is v u = rw (up v) (is (pos v) ∙ omega arith)
 below-right : (m : ℤ → Meaning) (id : ℕ) → ((z : ℤ) → codeOf (m z) ≡ signed id z) → RightFor 0x10000 NotZero (below m) id
 below-right m id is v h = rw (down v h) (is (negsuc (v - 1)) ∙ omega arith)
 
-plain-right : Each (RightFor 0 Any) unsignedCommands
-plain-right =
+unsigned-right : Each (RightFor 0 Any) unsignedCommands
+unsigned-right =
     (λ v u. refl)
     and (λ v u. refl)
     and (λ v u. refl)
@@ -207,7 +207,7 @@ decodes n =
     cases (eqb (n / 0x10000000) 1) (λ e. rw e (note-right n (eqb-true (n / 0x10000000) 1 e)))
     (λ e. rw e
     (cases (eqb sign 0)
-    (λ p. rw p (command 0 unsignedCommands Any (omega (arith, split, eqb-true sign 0 p)) tt plain-right))
+    (λ p. rw p (command 0 unsignedCommands Any (omega (arith, split, eqb-true sign 0 p)) tt unsigned-right))
     (λ p. rw p
     (cases (eqb sign 1)
     (λ m. rw m

@@ -1,7 +1,7 @@
 -- Source 004's patterns of a first byte as arithmetic, each row by one test over all 256 bytes.
--- Arithmetic, as-arithmetic   a pattern's fitting and number as arithmetic
+-- arithmetic, as-arithmetic   a pattern's fitting and number as arithmetic
 -- pulse-as, joined-as         the rows whose value begins in the first byte
--- isSingle, single-missed     the rows of one byte each: which those are, and that no other fits
+-- singles, single-missed      the rows of one byte each: which those are, and that no other fits
 use Prim.Native.Nat.{ℕ, _+_, _*_, _/_, _%_, _<_}
 use mathlib.Core.Path.{_≡_, refl, _∙_}
 use mathlib.Core.Bool.{Bool, false, _&&_, _||_, cond}
@@ -13,7 +13,7 @@ use lib.Dec.{T, eqb, eqb→eq}
 use Rattle.meaning.specs.declared.Meaning.{Meaning}
 use Rattle.meaning.specs.declared.Meaning.the-variants.{Pw, Ms, Dtn, Por}
 use Rattle.logic.specs.Truth.{neither}
-use Rattle.logic.specs.Every.{every, every-at, all-left, all-right, same, same-equal}
+use Rattle.logic.specs.Every.{every, every-at, all-left, all-right, same, same-equal, among}
 use Rattle.refusals.specs.Numbers.{Outcome}
 use Rattle.refusals.specs.Numbers.Outcome.{accepted}
 use Rattle.commandtable.specs.Patterns.{Symbol, O, I, n, byte, fits, number}
@@ -68,10 +68,6 @@ joined-as a b h =
     let rest = cond (eqb (a % 4) 3) (accepted (Por (a / 4 * 256 + b))) unassigned in
     rw (por .1, above .1, ms .1, por .0, below .0, above .0, jif .0, ms .0, detuned a (λ bit. accepted (Dtn (detuningOf (a / 32 * 256 + b) bit))) rest)
 
-abbrev pub isOneOf : List ℕ → ℕ → Bool
-isOneOf [] a = false
-isOneOf (k ∷ ks) a = eqb a k || isOneOf ks a
-
 abbrev pub singles : List ℕ
 singles = 0x06 ∷ 0x16 ∷ 0x26 ∷ 0x36 ∷ 0x46 ∷ 0x56 ∷ 0x66 ∷ 0x6E ∷ 0x76 ∷ 0x86 ∷ 0x96 ∷ 0xA6 ∷ 0xB6 ∷ 0xC6 ∷ 0xD6 ∷ 0xE6 ∷ 0xF6 ∷ 0x0E ∷ 0x2E ∷ 0x4E ∷ []
 
@@ -85,6 +81,6 @@ none-found (r ∷ rs) a b x e =
     let missed = neither (fits (r .pattern) a) (someFits rs a) e in
     rw (missed .0) (none-found rs a b x (missed .1))
 
-pub single-missed : (a b : ℕ) (x : Outcome Meaning) → a < 256 → isOneOf singles a ≡ false → rowFound singleRows a b x ≡ x
+pub single-missed : (a b : ℕ) (x : Outcome Meaning) → a < 256 → among singles a ≡ false → rowFound singleRows a b x ≡ x
 single-missed a b x h e =
-    none-found singleRows a b x (same-equal (someFits singleRows a) (isOneOf singles a) (every-at (λ k. same (someFits singleRows k) (isOneOf singles k)) 256 tt a h) ∙ e)
+    none-found singleRows a b x (same-equal (someFits singleRows a) (among singles a) (every-at (λ k. same (someFits singleRows k) (among singles k)) 256 tt a h) ∙ e)

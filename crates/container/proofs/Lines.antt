@@ -1,9 +1,9 @@
 -- Where a line ends, counted from its first byte on. Assumes nothing.
--- Counted                what is counted up to a byte and what is still to be counted make the length
--- counted-none, -more    nothing is counted, one byte more is
--- counted-closed, -all   the count has met a byte that no line has, or the end
--- end-past               a line past the end is empty
--- line-short             no line ends so far out that a sum is too great
+-- Counted        what is counted up to a byte and what is still to be counted make the length
+-- counted-more   one byte more is counted
+-- counted-closed, counted-all   the count has met a byte that no line has, or the end
+-- end-past       a line past the end is empty
+-- line-short     no line ends so far out that a sum is too great
 use Prim.Native.Nat.{ℕ, suc, _+_, _-_, _<_, _≤_, _^_}
 use mathlib.Core.Path.{_≡_}
 use mathlib.Core.Bool.{true, false}

@@ -1,7 +1,7 @@
--- What each way through the reading comes to. Assumes nothing.
+-- The outcome of each way through the reading. Assumes nothing.
 -- numbers-failed, numbers-passed   the head, by the verdict of its tests
--- end-within    the voices of a file whose head is right end within its first 65,536 bytes
--- by-text       the outcome of a file whose head is right, by the tests of its text
+-- end-within                 the voices of a file whose head is right end within its first 65,536 bytes
+-- by-text                    the outcome of a file whose head is right, by the tests of its text
 -- text-failed, text-passed   by their verdict
 use Prim.Native.Nat.{ℕ, _≤_}
 use mathlib.Core.Path.{_≡_, ap}

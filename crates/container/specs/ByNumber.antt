@@ -1,5 +1,5 @@
 -- A refusal's number says which tests it is of: 21 to 24 are the head's.
--- EachNumber, first-each   what holds of the number of each test holds of the number that they come to
+-- EachNumber, first-each   what holds of the number of each test holds of the number that answers
 -- head-number              the head's refusals are 24 or less
 -- text-number              those of a file whose head is right are above 24
 use Prim.Native.Nat.{ℕ, _≤_, _<_}

@@ -22,7 +22,7 @@ use Rattle.refusals.specs.Numbers.Outcome.{accepted, refused}
 use Rattle.refusals.specs.declared.Verdict.{Verdict}
 use Rattle.refusals.specs.declared.Verdict.the-variants.{Passed, Failed}
 use Rattle.refusals.specs.Tests.{None, firstOf, guarded}
-use Rattle.refusals.specs.Laws.{passed-none, none-passed, guarded-accepted, later, first-append, two-ways}
+use Rattle.refusals.specs.Laws.{passed-none, none-passed, guarded-accepted, firstFailed, first-append, two-ways}
 use Rattle.fields.specs.declared.Span.{Span}
 use Rattle.fields.specs.Parts.{partOf}
 use Rattle.container.specs.declared.Voices.{Voices}
@@ -106,7 +106,7 @@ pub head-first : (f : List ℕ) (n p : ℕ) → headOutcome f ≡ refused n p �
 unfolding headOutcome containerOutcome containerTests
 head-first f n p e = rw (first-append (headTests (headOf f)) (textTests (textIn f) (length f))) (go (firstOf (headTests (headOf f))) e)
   where
-    go : (v : Verdict) → guarded v (accepted (voicesOf (headOf f))) ≡ refused n p → guarded (later v (firstOf (textTests (textIn f) (length f)))) (accepted (layoutOf f)) ≡ refused n p
+    go : (v : Verdict) → guarded v (accepted (voicesOf (headOf f))) ≡ refused n p → guarded (firstFailed v (firstOf (textTests (textIn f) (length f)))) (accepted (layoutOf f)) ≡ refused n p
     go Passed q = absurd (two-ways (sym q))
     go (Failed m) q = cc
 

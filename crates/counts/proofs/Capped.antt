@@ -1,7 +1,8 @@
 -- The stop at 1,048,577 never shows: what is counted is the defined count, up to there.
--- cap-mul         n times a count, with the stop
--- events-capped, walked-capped, depth-same   the counts of a voice and the definitions
--- total-voice     the reading of a whole voice in one pass
+-- cap-mul                      n times a count, with the stop
+-- events-related, walked-related, depth-related   what is counted of a body and the definitions
+-- total-voice                  the reading of a whole voice in one pass
+-- total-events, total-walked, total-depth   its counts and the definitions
 -- too-deep, too-long, within   what follows for 32, for 33 and for what is reported
 use Prim.Native.Nat.{ℕ, zero, suc, _+_, _*_, _<_, _≤_}
 use mathlib.Core.Path.{_≡_, refl, ap, _∙_}

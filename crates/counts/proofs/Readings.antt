@@ -1,11 +1,11 @@
 -- A body read in one pass, pair by pair: the loop of the recursive reading.
--- Sum                   its invariant: what the rest of the body comes to, after the counts so far, is what
---                       the whole body comes to
+-- Sum                   its invariant: the counts so far and those of the rest of the body are those of the
+--                       whole body
 -- sum-start, step, joined, sum-end   its start, a step over a part of the body, one that joins the part's
 --                                    counts, and its end
 -- running               the counts so far leave room for more
 -- event-step, call-step, repeat-step, phrase-step   the steps of each kind of pair
--- deeper, call-deep, repeat-deep, none-deep, phrase-deep   where the allowance is too small
+-- deeper, call-deep, repeat-deep, phrase-deep   where the allowance is too small
 -- close-end, stop-end   the body closed by a TAL or an END, and by the voice's end
 use Prim.Native.Nat.{ℕ, _+_, _-_, _/_, _<_, _≤_, max}
 use mathlib.Core.Path.{_≡_, refl, sym, ap, _∙_, subst}

@@ -51,13 +51,13 @@ fn measure(voice: &[u8], cells: &mut [u64; 24], allowance: u32, from: usize) -> 
             Part::Phrase(k) => match measure(voice, cells, allowance, at + 1) {
                 Measured::TooDeep => return Measured::TooDeep,
                 Measured::Body(m) => {
-                    cells[k as usize] = tally::coded(m.counts);
+                    cells[k as usize] = tally::packed_counts(m.counts);
                     sum = tally::with_phrase(sum, m.counts);
                     at = m.at + 1;
                 }
             },
             Part::Call(k) => {
-                let c = tally::decoded(cells[k as usize]);
+                let c = tally::unpacked_counts(cells[k as usize]);
                 if allowance <= c.depth {
                     return Measured::TooDeep;
                 }
@@ -76,7 +76,7 @@ fn measure(voice: &[u8], cells: &mut [u64; 24], allowance: u32, from: usize) -> 
     })
 }
 
-// What a voice comes to: its events and pairs walked, or the number of the first of 32 and 33 that applies.
+// The counts of a voice: its events and pairs walked, or the number of the first of 32 and 33 that applies.
 pub enum Counted {
     Within(u32, u32),
     Off(u32),

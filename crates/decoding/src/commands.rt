@@ -42,7 +42,7 @@ fn without_value(v: u16, meaning: Meaning) -> Reading
 }
 
 // internal: the command of a number with sign digit 0. One line a command, in source 004's order.
-pub fn plain_at(id: u32, v: u16) -> Reading
+pub fn unsigned_at(id: u32, v: u16) -> Reading
     ensures { λ r. ⌜ outcomeOfMeaning r ≡ commandAt unsignedCommands id v ⌝ }
 {
     let above = signed::less(v, 0);

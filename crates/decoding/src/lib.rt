@@ -27,7 +27,7 @@ pub fn meaning_of(code: u32) -> Reading
     let sign = code / 0x10000 % 0x10;
     let v = (code % 0x10000) as u16;
     if sign == 0 {
-        return commands::plain_at(id, v);
+        return commands::unsigned_at(id, v);
     }
     if sign != 1 {
         return none();

@@ -13,7 +13,7 @@ use Rattle.bodies.specs.Voice.{pairs}
 use Rattle.bodies.specs.Bodies.{inner, outer, withPair, bodies, bodyOf}
 use Rattle.bodies.specs.Playing.{interpret, phrases, copies, played}
 use Rattle.mus.specs.Asked.{voiceAsked}
-use Rattle.mus.specs.Example.{example, example-heard}
+use Rattle.mus.specs.Example.{example, example-accepted}
 use Rattle.walk.specs.Times.{offsetsOf, jiffiesOf}
 use Rattle.events.specs.Listing.{playedIn, Listing, listing}
 
@@ -24,4 +24,4 @@ pub example-listed : (listed 1 ≡ record { answer = accepted 5; offsets = 8 ∷
     × (listed 2 ≡ record { answer = accepted 1; offsets = 18 ∷ 91 ∷ 92 ∷ 93 ∷ 94 ∷ 95 ∷ 96 ∷ []; jiffies = 0 ∷ 81 ∷ 82 ∷ 83 ∷ 84 ∷ 85 ∷ 86 ∷ [] })
     × (listed 3 ≡ record { answer = accepted 1; offsets = 20 ∷ 91 ∷ 92 ∷ 93 ∷ 94 ∷ 95 ∷ 96 ∷ []; jiffies = 0 ∷ 81 ∷ 82 ∷ 83 ∷ 84 ∷ 85 ∷ 86 ∷ [] })
 unfolding listing voiceAsked playedIn offsetsOf jiffiesOf lengths sum timeOf jiffyOf numbers jiffies lengthOf valuesAfter pairs inner outer withPair bodies bodyOf interpret phrases copies played
-example-listed = (rw example-heard, rw example-heard, rw example-heard)
+example-listed = (rw example-accepted, rw example-accepted, rw example-accepted)

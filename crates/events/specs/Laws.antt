@@ -1,7 +1,7 @@
 -- Laws of a listing: when it is refused, what each cell holds after it, and how two listings go together.
 -- listed-once                 no two answers have the same outcome
--- voice-first, lengths-next, file-last   what a call comes to: 41 by the voice, then 42 by the lists, then
---                                        what the file comes to
+-- voice-first, lengths-next, file-last   the outcome of a call: 41 by the voice, then 42 by the lists, then
+--                                        that of the file
 -- refused-unchanged           a refusal leaves both lists as they were
 -- Answered, accepted-window   any other answer is that of the voice asked for, of an accepted file
 -- countIn                     how many of some cells a voice fills

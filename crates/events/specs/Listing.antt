@@ -15,25 +15,25 @@
 --                   (crates/mus/specs/Asked.antt)
 -- outcomeOfListed   what an answer says
 use Prim.Native.Nat.{ℕ, _-_, min}
-use mathlib.Core.Bool.{not, _||_}
-use mathlib.Core.List.{List, [], _∷_}
-use lib.Dec.{eqb, ltb}
+use mathlib.Core.Bool.{not}
+use mathlib.Core.List.{List, [], _∷_, _++_}
+use lib.Dec.{eqb}
 use lib.ListN.{length}
-use Rattle.refusals.specs.Numbers.{Outcome, voiceNumber, listLengths}
+use Rattle.refusals.specs.Numbers.{Outcome, listLengths}
 use Rattle.refusals.specs.Numbers.Outcome.{accepted, refused}
 use Rattle.refusals.specs.Tests.{Test, test, firstOf, guarded}
 use Rattle.bodies.specs.Bodies.{Event}
 use Rattle.bodies.specs.Voice.{pairs}
 use Rattle.bodies.specs.Playing.{played}
 use Rattle.mus.specs.declared.Voice.{Voice}
-use Rattle.mus.specs.Asked.{voiceAsked, bytesOf}
+use Rattle.mus.specs.Asked.{numberTests, voiceAsked, bytesOf}
 use Rattle.cells.specs.Window.{filled}
 use Rattle.walk.specs.Times.{offsetsOf, jiffiesOf}
 use Rattle.events.specs.declared.Listed.{Listed}
 use Rattle.events.specs.declared.Listed.the-variants.{Count, Refused}
 
 abbrev pub callerTests : ℕ → ℕ → ℕ → List Test
-callerTests voice n m = test voiceNumber (ltb voice 1 || ltb 3 voice) ∷ test listLengths (not (eqb n m)) ∷ []
+callerTests voice n m = numberTests voice ++ test listLengths (not (eqb n m)) ∷ []
 
 unfoldable pub playedIn : List ℕ → Voice → List Event
 playedIn f v = played (pairs (bytesOf f v))

@@ -10,7 +10,7 @@ use borrow.Author.Tests.{eqb-true, ne-eqb, ltb-true, not-true}
 use Rattle.logic.specs.Cases.{cases}
 use Rattle.logic.specs.Truth.{both}
 use Rattle.logic.specs.LastArm.{Others, others-known}
-use Rattle.logic.specs.Every.{every-at, implied}
+use Rattle.logic.specs.Every.{every-at, implied, among}
 use Rattle.commandtable.specs.Codes.{secondOutcome}
 use Rattle.command.specs.Others.{otherOutcome}
 use Rattle.pair.specs.Pairs.{meaningOf}
@@ -18,7 +18,7 @@ use Rattle.kind.specs.declared.Kind.the-variants.{Event}
 use Rattle.kind.specs.Kinds.{kindOf}
 use Rattle.kind.specs.Bytes.{secondKind}
 use Rattle.kind.specs.Laws.{sameKind, same-kind}
-use Rattle.kind.specs.Plain.{among, plainSecond, apart, plainFirst, isPlain}
+use Rattle.kind.specs.Plain.{plainSecond, apart, plainFirst, isPlain}
 use Rattle.kind.proofs.Rows.{second-as, por-event, rest-event}
 
 pub not-among : (T : Type 0) (xs : List ℕ) (k : ℕ) → Others (λ x. x) T xs k → among xs k ≡ false

@@ -13,10 +13,10 @@ use native.Mathlib.Decide.{ℕ-discrete}
 use lib.Dec.{T, eqb}
 use borrow.Author.Tests.{eqb-true, ne-eqb, not-true}
 use Rattle.logic.specs.Cases.{cases}
-use Rattle.logic.specs.Every.{every, every-at, true-of}
+use Rattle.logic.specs.Every.{every, every-at, true-of, among}
 use Rattle.commandtable.specs.Codes.{secondOutcome}
 use Rattle.command.specs.Others.{singleRows, rowFound, joinedOutcome, otherOutcome}
-use Rattle.command.proofs.Firsts.{isOneOf, singles, pulse-as, single-missed, joined-as}
+use Rattle.command.proofs.Firsts.{singles, pulse-as, single-missed, joined-as}
 use Rattle.kind.specs.declared.Kind.the-variants.{Event, Bad}
 use Rattle.kind.specs.Kinds.{kindOf}
 use Rattle.kind.specs.Bytes.{eventIf, secondKind}
@@ -36,8 +36,8 @@ ranged-as a within t b h =
 joined-kind : (a b : ℕ) → a < 256 → (a % 16 ≡ 2 → ⊥) → (a % 16 ≡ 6 → ⊥) → (a % 16 ≡ 14 → ⊥)
     → kindOf (otherOutcome a b) ≡ cond (eqb (a % 16) 0x0A) Event (cond (eqb (a % 4) 3) Event (Bad 27))
 joined-kind a b h p q r =
-    let test = true-of (eqb (a % 16) 6 || eqb (a % 16) 14 || not (isOneOf singles a)) (every-at (λ k. eqb (k % 16) 6 || eqb (k % 16) 14 || not (isOneOf singles k)) 256 tt a h) in
-    let none = not-true (isOneOf singles a) (rw (ne-eqb (a % 16) 6 q, ne-eqb (a % 16) 14 r) at test) in
+    let test = true-of (eqb (a % 16) 6 || eqb (a % 16) 14 || not (among singles a)) (every-at (λ k. eqb (k % 16) 6 || eqb (k % 16) 14 || not (among singles k)) 256 tt a h) in
+    let none = not-true (among singles a) (rw (ne-eqb (a % 16) 6 q, ne-eqb (a % 16) 14 r) at test) in
     let other : otherOutcome a b ≡ joinedOutcome a b = rw (pulse-as a b (rowFound singleRows a b (joinedOutcome a b)) h, ne-eqb (a % 16) 2 p) (single-missed a b (joinedOutcome a b) h none) in
     rw (other, joined-as a b h, ne-eqb (a % 64) 0x1E (λ e. r (omega arith)), ne-eqb (a % 64) 0x3E (λ e. r (omega arith)))
     (cases (eqb (a % 16) 0x0A) (λ s. rw s) (λ s. cases (eqb (a % 4) 3) (λ t. rw (s, t)) (λ t. rw (s, t))))
@@ -59,7 +59,7 @@ abbrev Events : List ℕ → ℕ → Type 0
 Events [] b = Unit
 Events (k ∷ ks) b = (kindOf (otherOutcome k b) ≡ Event) × Events ks b
 
-events-at : (ks : List ℕ) (a b : ℕ) → Events ks b → T (isOneOf ks a) → kindOf (otherOutcome a b) ≡ Event
+events-at : (ks : List ℕ) (a b : ℕ) → Events ks b → T (among ks a) → kindOf (otherOutcome a b) ≡ Event
 events-at [] a b es t = absurd t
 events-at (k ∷ ks) a b es t =
     cases (eqb a k) (λ e. rw (eqb-true a k e) (es .0)) (λ e. events-at ks a b (es .1) (rw e at t))
@@ -69,9 +69,9 @@ plain-events b h =
     (refl, (refl, (refl, (refl, (refl, (refl, (refl, (refl, (refl, (refl, (refl, (refl, (refl, (refl, (refl, (refl, (refl, (sym (ranged-as 0x3E (λ k. true) tt b h), (sym (ranged-as 0x7E (λ k. true) tt b h), tt)))))))))))))))))))
 
 abbrev sorted : ℕ → Bool
-sorted a = not (eqb (a % 4) 2) || eqb (a % 16) 2 || eqb (a % 16) 0x0A || isOneOf apart a || isOneOf plain a
+sorted a = not (eqb (a % 4) 2) || eqb (a % 16) 2 || eqb (a % 16) 0x0A || among apart a || among plain a
 
-pub rest-event : (a b : ℕ) → a < 256 → b < 256 → a % 4 ≡ 2 → isOneOf apart a ≡ false → kindOf (otherOutcome a b) ≡ Event
+pub rest-event : (a b : ℕ) → a < 256 → b < 256 → a % 4 ≡ 2 → among apart a ≡ false → kindOf (otherOutcome a b) ≡ Event
 rest-event a b ha hb e none =
     elim (ℕ-discrete (a % 16) 2) [
       | yes p ↦ rw (pulse-as a b (rowFound singleRows a b (joinedOutcome a b)) ha, p)
@@ -79,7 +79,7 @@ rest-event a b ha hb e none =
           elim (ℕ-discrete (a % 16) 0x0A) [
             | yes q ↦ joined-kind a b ha p (λ r. omega arith) (λ r. omega arith) ∙ rw q
             | no q ↦
-                let t : T (isOneOf plain a) = rw (e, ne-eqb (a % 16) 2 p, ne-eqb (a % 16) 0x0A q, none) at (every-at sorted 256 tt a ha) in
+                let t : T (among plain a) = rw (e, ne-eqb (a % 16) 2 p, ne-eqb (a % 16) 0x0A q, none) at (every-at sorted 256 tt a ha) in
                 events-at plain a b (plain-events b hb) t
           ]
     ]

@@ -1,18 +1,14 @@
 -- Tests of a pair's two bytes that only events pass, for loops that ask them before a pair's kind;
 -- proofs/PlainEvents.antt shows that they do.
--- among               one of some numbers
 -- plainSecond         a low nibble of the second byte after 01
 -- apart, plainFirst   any other first byte: those of low bits 10 whose second byte counts, or that are
 --                     unassigned, are left out
 -- isPlain             the tests of two bytes
 use Prim.Native.Nat.{ℕ, _%_}
-use mathlib.Core.Bool.{Bool, true, false, not, _&&_, _||_, cond}
+use mathlib.Core.Bool.{Bool, true, not, _&&_, cond}
 use mathlib.Core.List.{List, [], _∷_}
 use lib.Dec.{eqb, ltb}
-
-abbrev pub among : List ℕ → ℕ → Bool
-among [] a = false
-among (k ∷ ks) a = eqb a k || among ks a
+use Rattle.logic.specs.Every.{among}
 
 abbrev pub plainSecond : ℕ → Bool
 plainSecond n = not (among (0x2 ∷ 0x3 ∷ 0x6 ∷ 0xB ∷ 0xF ∷ []) n)

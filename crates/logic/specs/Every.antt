@@ -1,10 +1,11 @@
 -- A test of every number below a bound, computed once, and what it shows at each of them.
--- every, every-at     the test passes at each number below n, so at k
--- same, same-equal    two truth values compared, and so two signed numbers (sameℤ, sameℤ-equal)
--- true-of             a test that passes is true
+-- every, every-at    the test passes at each number below n, so at k
+-- same, same-equal   two truth values compared, and so two signed numbers (sameℤ, sameℤ-equal)
+-- true-of            a test that passes is true
 -- all-left, all-right what a test of two things shows
--- implied             a test of a thing wherever another holds
--- each, each-at       the same of a table: at each place and its entry
+-- implied            a test of a thing wherever another holds
+-- among              a number is one of a list's
+-- each, each-at      the same of a table: at each place and its entry
 use Prim.Native.Nat.{ℕ, zero, suc, _+_, _<_}
 use mathlib.Core.Path.{_≡_, refl, ap, subst}
 use mathlib.Core.Bool.{Bool, true, false, not, _&&_, _||_}
@@ -65,6 +66,10 @@ sameℤ-equal (pos m) (pos n) t = ap pos (eqb→eq m n t)
 sameℤ-equal (pos m) (negsuc n) t = absurd t
 sameℤ-equal (negsuc m) (pos n) t = absurd t
 sameℤ-equal (negsuc m) (negsuc n) t = ap negsuc (eqb→eq m n t)
+
+abbrev pub among : List ℕ → ℕ → Bool
+among [] a = false
+among (k ∷ ks) a = eqb a k || among ks a
 
 -- the same of a table: the test passes at each place, counted from i, and the entry there
 abbrev pub each : (ℕ → ℕ → Bool) → ℕ → List ℕ → Bool

@@ -1,11 +1,11 @@
 -- What the walk keeps, and how each pair that makes bodies changes it, for the contracts of its code; that
--- this comes to the played-out voice of crates/bodies/specs/Playing.antt is shown in crates/walk/proofs.
--- nextOf        a pair by its kind
--- BoundedMove, Bounded   the bounds of its number
--- Room, Ready   what a move may count on
--- top           what is kept of the repeat or call that is innermost
--- tal, talFrames   after a TAL: the place, and what is kept
--- end           the place after an END
+-- this is the played-out voice of crates/bodies/specs/Playing.antt is shown in crates/walk/proofs.
+-- nextOf                    a pair by its kind
+-- BoundedMove, Bounded      the bounds of its number
+-- Room, Ready               what a move may count on
+-- top                       what is kept of the repeat or call that is innermost
+-- tal, talFrames            after a TAL: the place, and what is kept
+-- end                       the place after an END
 -- placeAfter, framesAfter   after each pair: the place, where body is what a CAL goes to, and what is kept of
 --                           repeats and calls
 use Prim.Native.Nat.{ℕ, _+_, _-_, _*_, _/_, _%_, _<_, _≤_}

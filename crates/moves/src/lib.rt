@@ -61,7 +61,7 @@ fn kept(at: usize, passes: u16) -> u32
 }
 
 // The number of the pair after the HED or CAL that is kept.
-fn behind(frame: u32) -> usize
+fn pair_after(frame: u32) -> usize
     ensures { λ r. ⌜ r ≡ frame / 256 + 1 ⌝ }
 {
     (frame / 256) as usize + 1
@@ -77,7 +77,7 @@ fn close_repeat(place: Place, frames: &mut [u32; 16]) -> Place
     if 1 < frame % 256 {
         frames[top] = frame - 1;
         Place {
-            at: behind(frame),
+            at: pair_after(frame),
             depth: place.depth,
         }
     } else {
@@ -104,7 +104,7 @@ fn close_phrase(place: Place, frames: &[u32; 16]) -> Place
     let frame = frames[top];
     if frame % 256 == 0 {
         Place {
-            at: behind(frame),
+            at: pair_after(frame),
             depth: top,
         }
     } else {

@@ -1,12 +1,12 @@
 -- The order of the tests, as the code meets it.
 -- pairs-refused, structure-refused, both-clear   a voice by what its passes found
--- clear-sound       a voice in which they found nothing has sound bodies
--- pair-number-few   the pair that they found has a small number
--- part-short        a part of a file is no longer than the file
+-- clear-sound                a voice in which they found nothing has sound bodies
+-- pairs-few, structure-few   the pair that they found has a small number
+-- part-short                 a part of a file is no longer than the file
 -- first-refused, second-refused, third-refused, all-sound   a file by its voices
--- in-file           what a right container says of the places of its voices
+-- in-file                    what a right container says of the places of its voices
 -- container-refused, container-fits   a file by its container
--- file-answered     a voice by its number, by the file
+-- file-answered              a voice by its number, by the file
 use Prim.Native.Nat.{ℕ, _+_, _*_, _≤_}
 use mathlib.Core.Path.{_≡_, subst}
 use mathlib.Core.Bool.{false, _||_}

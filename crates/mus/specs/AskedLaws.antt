@@ -1,6 +1,6 @@
 -- Laws of a voice that a caller names, and what acceptance has shown of it.
 -- voice-once                no two answers have the same outcome
--- number-first, file-next   41 by the number, then what the file comes to
+-- number-first, file-next   41 by the number, then the outcome of the file
 -- Asked, asked-accepted     any other answer is the voice of that number, of an accepted file
 -- in-song, asked-in-song    each voice of a song, and the voice that is asked for, is as acceptance has
 --                           reported it (InSong)

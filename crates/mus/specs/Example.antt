@@ -1,7 +1,7 @@
 -- Document 01, 'Sums on the bench': the 28 bytes there, by the definitions.
--- example         the bytes
--- example-heard   they are accepted: voice 1, TEM, HED 3, a note, TAL and HLT, has 1 + 3 + 1 events and walks
---                 1 + (1 + 3 × (1 + 1)) + 1 pairs; voices 2 and 3 are HLT alone
+-- example            the bytes
+-- example-accepted   they are accepted: voice 1, TEM, HED 3, a note, TAL and HLT, has 1 + 3 + 1 events and
+--                    walks 1 + (1 + 3 × (1 + 1)) + 1 pairs; voices 2 and 3 are HLT alone
 use Prim.Native.Nat.{ℕ}
 use mathlib.Core.Path.{_≡_, refl}
 use mathlib.Core.List.{List, [], _∷_}
@@ -21,7 +21,7 @@ abbrev pub example : List ℕ
 example =
     0x00 ∷ 0x09 ∷ 0x0A ∷ 0x00 ∷ 0x02 ∷ 0x00 ∷ 0x02 ∷ 0x00 ∷ 0x06 ∷ 0x78 ∷ 0x36 ∷ 0x03 ∷ 0x20 ∷ 0x94 ∷ 0x01 ∷ 0x0F ∷ 0x01 ∷ 0x4F ∷ 0x01 ∷ 0x4F ∷ 0x01 ∷ 0x4F ∷ 0x0D ∷ 0x0D ∷ 0x0D ∷ 0x0D ∷ 0x0D ∷ 0x00 ∷ []
 
-pub example-heard : musOutcome example
+pub example-accepted : musOutcome example
     ≡ accepted (record {
       load = 0x0900;
       voice1 = record { offset = 8; length = 10; events = 5; walked = 9 };
@@ -34,4 +34,4 @@ pub example-heard : musOutcome example
       line5 = record { from = 26; len = 0 };
     })
 unfolding musOutcome voiceOutcome le16 headOf lineBytes lineOf textOf layoutOf containerTests containerOutcome pairs inner outer withPair bodies bodyOf interpret phrases copies played eventsOf walkedOf depthOf firstAt pairsTests nestingsTests pairsFinding structureFinding
-example-heard = refl
+example-accepted = refl

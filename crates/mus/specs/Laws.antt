@@ -9,7 +9,7 @@
 -- clear-accepted, accepted-clear   a file is accepted exactly when none applies
 -- song-once                    no two answers have the same outcome
 -- head-refused                 21 to 24 come first
--- long-refused, cut-off        a file of more than 65,536 bytes is 22, and so is what is left of it that is
+-- long-refused, song-cut-off   a file of more than 65,536 bytes is 22, and so is what is left of it that is
 --                              as long
 -- line-text                    a line of an accepted file is the paper's line
 use Prim.Native.Nat.{ℕ, _<_}
@@ -154,8 +154,8 @@ head-refused f n p e = rw (head-first f n p e)
 pub long-refused : (f : List ℕ) → 65536 < length f → musOutcome f ≡ refused 22 0
 long-refused f h = head-refused f 22 0 (long-head f h)
 
-pub cut-off : (f : List ℕ) (n : ℕ) → 65536 < length f → 65536 < n → musOutcome (take n f) ≡ musOutcome f
-cut-off f n h g = long-refused (take n f) (omega (arith, length-take n f)) ∙ sym (long-refused f h)
+pub song-cut-off : (f : List ℕ) (n : ℕ) → 65536 < length f → 65536 < n → musOutcome (take n f) ≡ musOutcome f
+song-cut-off f n h g = long-refused (take n f) (omega (arith, length-take n f)) ∙ sym (long-refused f h)
 
 pub line-text : (f : List ℕ) (s : Song) → musOutcome f ≡ accepted s
     → (textLine f 1 ≡ line f (voicesEnd (headOf f)) 0)

@@ -79,9 +79,7 @@ pub fn text_line(file: &[u8], number: u64) -> &[u8]
         Reading::Refused(_) => fields::part(file, 0, 0),
         Reading::Accepted(song) => {
             let span = voices::line_span(song, number);
-            let from = span.from;
-            let len = span.len;
-            fields::part(file, from, len)
+            fields::span_part(file, span)
         }
     }
 }

@@ -1,4 +1,4 @@
-// A note's two bytes: read, and written in the writer's spelling. Internal: for our other crates.
+// A note's two bytes: read, and written in the writer's spelling. Internal.
 ghost use mathlib.Core.Path.{_≡_};
 ghost use Rattle.meaning.specs.Answers.{outcomeOfBytes};
 ghost use Rattle.note.specs.Reading.{noteOf};

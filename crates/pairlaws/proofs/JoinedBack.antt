@@ -1,6 +1,6 @@
 -- What is written reads back, for values that begin in the first byte.
 -- pw-written, ms-written, por-written   P-W, MS# and POR
--- jif-back, dtn-back                    JIF and DTN, of either sign
+-- jif-back, dtn-back   JIF and DTN, of either sign
 use Prim.Native.Nat.{ℕ, _+_, _*_, _-_, _/_, _%_, _≤_}
 use mathlib.Core.Path.{_≡_, refl, _∙_, ap}
 use native.Mathlib.Omega.{arith}
@@ -15,7 +15,7 @@ use Rattle.command.proofs.Firsts.{joined-as}
 use Rattle.spelling.specs.Signs.{jif, dtn}
 use Rattle.pair.specs.Pairs.{meaningOf}
 use Rattle.pairlaws.specs.Statements.{ReadsBack}
-use Rattle.pairlaws.proofs.ValueKinds.{picked, joined-good}
+use Rattle.pairlaws.proofs.ValueKinds.{picked-back, joined-means}
 use Rattle.pairlaws.proofs.FirstBytes.{joined-meaning, pw-meaning}
 
 pub pw-written : (v : ℕ) → v ≤ 4095 → meaningOf (0x02 + 16 * (v / 256)) (v % 256) ≡ accepted (Pw v)
@@ -54,8 +54,8 @@ jif-back (pos n) =
     cases (leb n 757)
     (λ e. let low = leb-true n 757 e in
     rw e
-    (picked (Jif (pos n)) (leb n 1023) (0x3E + 64 * (n / 256)) (n % 256)
-    (λ q. joined-good (Jif (pos n)) n 1023 0x3E 64 (omega arith) tt
+    (picked-back (Jif (pos n)) (leb n 1023) (0x3E + 64 * (n / 256)) (n % 256)
+    (λ q. joined-means (Jif (pos n)) n 1023 0x3E 64 (omega arith) tt
     (jif-raw n (omega arith) ∙ rw (e, le-ltb n 0 (omega arith)) (ap (λ (k : ℕ). accepted (Jif (pos k))) (omega arith))))))
     (λ e. rw e (refl, refl))
 jif-back (negsuc n) =
@@ -63,8 +63,8 @@ jif-back (negsuc n) =
     (λ e. let low = leb-true (n + 1) 200 e in
     let v = 1024 - (n + 1) in
     rw e
-    (picked (Jif (negsuc n)) (leb v 1023) (0x3E + 64 * (v / 256)) (v % 256)
-    (λ q. joined-good (Jif (negsuc n)) v 1023 0x3E 64 (omega arith) tt
+    (picked-back (Jif (negsuc n)) (leb v 1023) (0x3E + 64 * (v / 256)) (v % 256)
+    (λ q. joined-means (Jif (negsuc n)) v 1023 0x3E 64 (omega arith) tt
     (jif-raw v (omega arith) ∙ rw (lt-leb v 757 (omega arith), lt-leb v 823 (omega arith), lt-ltb v 1024 (omega arith)) (ap (λ (k : ℕ). accepted (Jif (negsuc k))) (omega arith))))))
     (λ e. rw e (refl, refl))
 
@@ -86,7 +86,7 @@ dtn-back (pos n) =
     cases (leb n 2047)
     (λ e. let low = leb-true n 2047 e in
     rw e
-    (joined-good (Dtn (pos n)) n 2047 0x0A 32 low tt
+    (joined-means (Dtn (pos n)) n 2047 0x0A 32 low tt
     (dtn-raw 0 n (omega arith) low ∙ rw (le-ltb n 0 (omega arith)) (ap (λ (k : ℕ). accepted (Dtn (pos k))) (omega arith)))))
     (λ e. rw e (refl, refl))
 dtn-back (negsuc n) =
@@ -94,7 +94,7 @@ dtn-back (negsuc n) =
     (λ e. let low = leb-true (n + 1) 2048 e in
     let v = 2048 - (n + 1) in
     rw e
-    (picked (Dtn (negsuc n)) (leb v 2047) (0x1A + 32 * (v / 256)) (v % 256)
-    (λ q. joined-good (Dtn (negsuc n)) v 2047 0x1A 32 (omega arith) tt
+    (picked-back (Dtn (negsuc n)) (leb v 2047) (0x1A + 32 * (v / 256)) (v % 256)
+    (λ q. joined-means (Dtn (negsuc n)) v 2047 0x1A 32 (omega arith) tt
     (dtn-raw 1 v (omega arith) (omega arith) ∙ rw (lt-ltb v 2048 (omega arith)) (ap (λ (k : ℕ). accepted (Dtn (negsuc k))) (omega arith))))))
     (λ e. rw e (refl, refl))

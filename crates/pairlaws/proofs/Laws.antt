@@ -23,7 +23,7 @@ pub written-reads : (m : Meaning) (a b : ℕ) → spellingOf m ≡ pair a b → 
 written-reads m a b e = subst (ReadsBack m) e (reads-back m)
 
 pub read-written : (m : Meaning) (a b : ℕ) → Means m a b → spellingOf m ≡ accepted (preferred a b)
-read-written m a b good = subst (WrittenAs a b) (good .0) (written-as a b (good .1) (good .2))
+read-written m a b means = subst (WrittenAs a b) (means .0) (written-as a b (means .1) (means .2))
 
 same-bytes : (x y : Bytes) → _≡_ {A = Outcome Bytes} (accepted x) (accepted y) → x ≡ y
 same-bytes x y e = cc
@@ -33,8 +33,8 @@ written-preferred m a b e =
     same-bytes (preferred a b) (record { first = a; second = b }) (sym (read-written m a b (written-reads m a b e)) ∙ e)
 
 pub unwritten-none : (m : Meaning) → spellingOf m ≡ noBytes → (a b : ℕ) → Means m a b → ⊥
-unwritten-none m e a b good =
-    let both : _≡_ {A = Outcome Bytes} (accepted (preferred a b)) noBytes = sym (read-written m a b good) ∙ e in
+unwritten-none m e a b means =
+    let both : _≡_ {A = Outcome Bytes} (accepted (preferred a b)) noBytes = sym (read-written m a b means) ∙ e in
     let z : _≡_ {A = ℕ} 0 1 = cc in
     omega arith
 
@@ -42,11 +42,11 @@ pub none-unwritten : (m : Meaning) → ((a b : ℕ) → Means m a b → ⊥) →
 none-unwritten m none = go (spellingOf m) (reads-back m)
   where
     go : (o : Outcome Bytes) → ReadsBack m o → o ≡ noBytes
-    go (accepted bytes) good = absurd (none (bytes .first) (bytes .second) good)
+    go (accepted bytes) means = absurd (none (bytes .first) (bytes .second) means)
     go (refused number place) is = λ i. refused (is .0 i) (is .1 i)
 
 pub same-preferred : (m : Meaning) (a b c d : ℕ) → Means m a b → Means m c d → preferred a b ≡ preferred c d
 same-preferred m a b c d one other = same-bytes (preferred a b) (preferred c d) (sym (read-written m a b one) ∙ read-written m c d other)
 
 pub preferred-means : (m : Meaning) (a b : ℕ) → Means m a b → Means m (preferred a b .first) (preferred a b .second)
-preferred-means m a b good = written-reads m (preferred a b .first) (preferred a b .second) (read-written m a b good)
+preferred-means m a b means = written-reads m (preferred a b .first) (preferred a b .second) (read-written m a b means)

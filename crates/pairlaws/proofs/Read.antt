@@ -17,13 +17,13 @@ use Rattle.meaning.specs.declared.Meaning.{Meaning}
 use Rattle.meaning.specs.declared.Meaning.the-variants as M
 use Rattle.meaning.specs.declared.Meaning.the-variants.{Pw, Dtn}
 use Rattle.meaning.specs.Answers.{Bytes}
-use Rattle.logic.specs.Every.{every, every-at, all-left, all-right}
+use Rattle.logic.specs.Every.{every, every-at, all-left, all-right, among}
 use Rattle.note.specs.Reading.{noteOf}
 use Rattle.note.specs.Preferred.{preferredFirst, preferredSecond}
 use Rattle.note.specs.Laws.{read-note-writes}
 use Rattle.commandsigns.specs.Signs.{detuningOf, jifOutcome}
 use Rattle.command.specs.Others.{joinedOutcome}
-use Rattle.command.proofs.Firsts.{isOneOf, singles, joined-as}
+use Rattle.command.proofs.Firsts.{singles, joined-as}
 use Rattle.spelling.specs.Counts.{joined}
 use Rattle.pair.specs.Pairs.{meaningOf, spellingOf}
 use Rattle.pair.specs.Preferred.{preferred}
@@ -54,7 +54,7 @@ abbrev everyOf : List ℕ → (ℕ → Bool) → Bool
 everyOf [] f = true
 everyOf (k ∷ ks) f = f k && everyOf ks f
 
-every-of : (ks : List ℕ) (f : ℕ → Bool) → T (everyOf ks f) → (a : ℕ) → isOneOf ks a ≡ true → T (f a)
+every-of : (ks : List ℕ) (f : ℕ → Bool) → T (everyOf ks f) → (a : ℕ) → among ks a ≡ true → T (f a)
 every-of [] f t a e = absurd (let z : _≡_ {A = ℕ} 0 1 = cc in omega arith)
 every-of (k ∷ ks) f t a e =
     cases (eqb a k) (λ q. rw (eqb-true a k q) (all-left (f k) (everyOf ks f) t))
@@ -126,7 +126,7 @@ module _ (a b : ℕ) (ha : a < 256) (hb : b < 256) where
       plain : preferred a b ≡ record { first = a; second = b }
       plain = plain-preferred a b (λ z. omega (arith, e)) (λ z. omega (arith, e)) (λ z. omega (arith, e))
 
-  joined-written : (a % 4 ≡ 0 → ⊥) → isOneOf singles a ≡ false → WrittenAs a b (joinedOutcome a b)
+  joined-written : (a % 4 ≡ 0 → ⊥) → among singles a ≡ false → WrittenAs a b (joinedOutcome a b)
   joined-written note none =
       rw (joined-as a b ha)
       (elim (ℕ-discrete (a % 64) 0x1E) [
@@ -159,9 +159,9 @@ module _ (a b : ℕ) (ha : a < 256) (hb : b < 256) where
       let used : preferred a b ≡ record { first = preferredFirst a; second = preferredSecond b } = rw (is) in
       with-meaning a b (accepted (M.Note (noteOf a b))) means (read-note-writes a b ha hb e ∙ ap accepted (sym used))
 
-  rest-written : (a % 4 ≡ 0 → ⊥) → isOneOf (1 ∷ singles) a ≡ false → WrittenAs a b (meaningOf a b)
+  rest-written : (a % 4 ≡ 0 → ⊥) → among (1 ∷ singles) a ≡ false → WrittenAs a b (meaningOf a b)
   rest-written note e =
-      let none = neither (eqb a 1) (isOneOf singles a) e in
+      let none = neither (eqb a 1) (among singles a) e in
       elim (ℕ-discrete (a % 16) 2) [
         | yes pw ↦ with-meaning a b (accepted (Pw (a / 16 * 256 + b))) (pw-meaning a b ha pw) (pw-written-as pw)
         | no q ↦
@@ -173,5 +173,5 @@ module _ (a b : ℕ) (ha : a < 256) (hb : b < 256) where
       elim (ℕ-discrete (a % 4) 0) [
         | yes e ↦ note-written e
         | no note ↦
-            cases (isOneOf (1 ∷ singles) a) (λ e. in-row a b hb (every-of (1 ∷ singles) row singles-written a e)) (λ e. rest-written note e)
+            cases (among (1 ∷ singles) a) (λ e. in-row a b hb (every-of (1 ∷ singles) row singles-written a e)) (λ e. rest-written note e)
       ]

@@ -15,14 +15,13 @@ use Rattle.meaning.specs.declared.Pitch.{Pitch}
 use Rattle.meaning.specs.declared.Tone.{Tone}
 use Rattle.meaning.specs.declared.Tone.the-variants.{Rest, Sounds}
 use Rattle.meaning.specs.Pitches.{inTables, halfStep}
-use Rattle.logic.specs.Every.{every-at, same, same-equal}
+use Rattle.logic.specs.Every.{every-at, same, same-equal, among}
 use Rattle.note.specs.Reading.{toneOf}
 use Rattle.note.specs.Laws.{pitchByte, pitch-reads}
 use Rattle.commandtable.specs.Patterns.{fits}
 use Rattle.commandtable.specs.Codes as Codes
 use Rattle.commandtable.specs.Codes.{rows, fitsRow}
 use Rattle.command.specs.Others.{FirstRow, pulseRows, singleRows, joinedRows}
-use Rattle.command.proofs.Firsts.{isOneOf}
 
 abbrev one : Bool → ℕ
 one true = 1
@@ -38,10 +37,10 @@ seconds-apart b h = leb→le (holding rows b) 1 (every-at (λ k. leb (holding ro
 abbrev pub unassignedSeconds : List ℕ
 unassignedSeconds = 0x53 ∷ 0x6F ∷ 0x7F ∷ 0x83 ∷ 0x8B ∷ 0x9F ∷ 0xBF ∷ 0xCF ∷ 0xFF ∷ []
 
-pub seconds-unassigned : (b : ℕ) → b < 256 → eqb (holding rows b) 0 ≡ isOneOf unassignedSeconds b
+pub seconds-unassigned : (b : ℕ) → b < 256 → eqb (holding rows b) 0 ≡ among unassignedSeconds b
 seconds-unassigned b h =
-    same-equal (eqb (holding rows b) 0) (isOneOf unassignedSeconds b)
-    (every-at (λ k. same (eqb (holding rows k) 0) (isOneOf unassignedSeconds k)) 256 tt b h)
+    same-equal (eqb (holding rows b) 0) (among unassignedSeconds b)
+    (every-at (λ k. same (eqb (holding rows k) 0) (among unassignedSeconds k)) 256 tt b h)
 
 abbrev pub rowsFitting : List FirstRow → ℕ → ℕ
 rowsFitting [] a = 0
@@ -54,7 +53,7 @@ pub firsts-apart : (a : ℕ) → a < 256 → rowsFitting others a ≤ 1
 firsts-apart a h = leb→le (rowsFitting others a) 1 (every-at (λ k. leb (rowsFitting others k) 1) 256 tt a h)
 
 abbrev pub unassignedFirst : ℕ → Bool
-unassignedFirst a = eqb (a % 4) 0 || eqb (a % 4) 1 || isOneOf (0x8E ∷ 0xAE ∷ 0xCE ∷ 0xEE ∷ []) a
+unassignedFirst a = eqb (a % 4) 0 || eqb (a % 4) 1 || among (0x8E ∷ 0xAE ∷ 0xCE ∷ 0xEE ∷ []) a
 
 -- notes' first bytes and 01 among them, which have tables of their own
 pub firsts-unassigned : (a : ℕ) → a < 256 → eqb (rowsFitting others a) 0 ≡ unassignedFirst a

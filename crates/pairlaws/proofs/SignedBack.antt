@@ -42,8 +42,8 @@ module _ (M : ℤ → Meaning) (first : ℕ) (inside : ℕ → Bool) (value : �
   abbrev right : ℕ → ℤ → Bool
   right b z = inside b && sameℤ (value b) z && ltb b 256
 
-  byte-good : (b : ℕ) (z : ℤ) → T (right b z) → Means (M z) first b
-  byte-good b z t =
+  byte-means : (b : ℕ) (z : ℤ) → T (right b z) → Means (M z) first b
+  byte-means b z t =
       let two = all-left (inside b && sameℤ (value b) z) (ltb b 256) t in
       let in-range = true-of (inside b) (all-left (inside b) (sameℤ (value b) z) two) in
       let same = sameℤ-equal (value b) z (all-right (inside b) (sameℤ (value b) z) two) in (
@@ -58,7 +58,7 @@ module _ (M : ℤ → Meaning) (first : ℕ) (inside : ℕ → Bool) (value : �
   sized-back z byte greatest more t n size e =
       cases (ltb greatest size) (λ q. rw q (refl, refl))
       (λ q. let h = ltb-false greatest size q in
-      rw q (byte-good (byte n) (z n) (every-at (λ k. right (byte k) (z k)) (greatest + 1 - more) t n (omega arith))))
+      rw q (byte-means (byte n) (z n) (every-at (λ k. right (byte k) (z k)) (greatest + 1 - more) t n (omega arith))))
 
 abbrev tpsIn : ℕ → Bool
 tpsIn b = not (ltb 11 (b / 16))

@@ -1,7 +1,10 @@
 -- What is written reads back, for each kind of value: one law a kind, whatever the command.
--- picked, picked-else   a choice of two spellings
--- counted-back, phrase-back, at-most-back   the kinds without a sign
--- single-back, tempo-back, signed-back
+-- picked-back, picked-back-else   a choice of two spellings
+-- at-value                    a spelling of one value
+-- coded-means, counted-back, phrase-back   a command of the first byte 01
+-- single-back                 a value in the second byte alone
+-- joined-means, joined-back   a value that begins in the first byte
+-- signed-back                 a value with a sign
 use Prim.Native.Nat.{ℕ, _+_, _*_, _-_, _/_, _%_, _≤_, _<_}
 use mathlib.Core.Path.{_≡_, refl, sym, _∙_, ap, subst}
 use mathlib.Core.Bool.{Bool, true, false, _&&_, cond}
@@ -26,13 +29,13 @@ use Rattle.spelling.proofs.Steps.{stepped}
 use Rattle.pair.specs.Pairs.{meaningOf}
 use Rattle.pairlaws.specs.Statements.{Means, ReadsBack}
 
-pub picked : (m : Meaning) (t : Bool) (a b : ℕ) → (t ≡ true → Means m a b) → ReadsBack m (cond t (pair a b) noBytes)
-picked m true a b f = f refl
-picked m false a b f = (refl, refl)
+pub picked-back : (m : Meaning) (t : Bool) (a b : ℕ) → (t ≡ true → Means m a b) → ReadsBack m (cond t (pair a b) noBytes)
+picked-back m true a b f = f refl
+picked-back m false a b f = (refl, refl)
 
-pub picked-else : (m : Meaning) (t : Bool) (a b : ℕ) (x : Outcome Bytes) → (t ≡ true → Means m a b) → ReadsBack m x → ReadsBack m (cond t (pair a b) x)
-picked-else m true a b x f g = f refl
-picked-else m false a b x f g = g
+pub picked-back-else : (m : Meaning) (t : Bool) (a b : ℕ) (x : Outcome Bytes) → (t ≡ true → Means m a b) → ReadsBack m x → ReadsBack m (cond t (pair a b) x)
+picked-back-else m true a b x f g = f refl
+picked-back-else m false a b x f g = g
 
 pub at-value : (M : ℕ → Meaning) (v k : ℕ) (x y : Outcome Bytes) → ReadsBack (M k) x → ReadsBack (M v) y → ReadsBack (M v) (cond (eqb v k) x y)
 at-value M v k x y f g =
@@ -45,9 +48,9 @@ codedIs c b v = eqb (commandNumber (secondMeans b .command)) (commandNumber c) &
 same-command : (c d : Command) → commandNumber c ≡ commandNumber d → c ≡ d
 same-command c d e = sym (command-back c) ∙ ap commandNumbered e ∙ command-back d
 
-pub coded-good : (c : Command) (M : ℕ → Meaning) → ((v : ℕ) → Codes.commandMeaning c v ≡ accepted (M v))
+pub coded-means : (c : Command) (M : ℕ → Meaning) → ((v : ℕ) → Codes.commandMeaning c v ≡ accepted (M v))
     → (b v : ℕ) → T (codedIs c b v) → Means (M v) 1 b
-coded-good c M is b v t =
+coded-means c M is b v t =
     let k = secondMeans b .command in
     let first = eqb (commandNumber k) (commandNumber c) in
     let second = eqb (secondMeans b .value) v in
@@ -59,42 +62,42 @@ coded-good c M is b v t =
 pub counted-back : (c : Command) (M : ℕ → Meaning) → ((v : ℕ) → Codes.commandMeaning c v ≡ accepted (M v))
     → (v most base step : ℕ) → T (every (λ k. codedIs c (base + step * k) k) (most + 1)) → ReadsBack (M v) (counted v most base step)
 counted-back c M is v most base step t =
-    picked (M v) (leb v most) 1 (base + step * v)
+    picked-back (M v) (leb v most) 1 (base + step * v)
     (λ e. let low = leb-true v most e in
-    coded-good c M is (base + step * v) v (every-at (λ k. codedIs c (base + step * k) k) (most + 1) t v (omega arith)))
+    coded-means c M is (base + step * v) v (every-at (λ k. codedIs c (base + step * k) k) (most + 1) t v (omega arith)))
 
 pub phrase-back : (c : Command) (M : ℕ → Meaning) → ((v : ℕ) → Codes.commandMeaning c v ≡ accepted (M v))
     → (v low high : ℕ) → T (every (λ k. codedIs c (low + 16 * k) k) 16) → T (every (λ k. codedIs c (high + 16 * (17 + k - 16)) (17 + k)) 7)
     → ReadsBack (M v) (phrase v low high)
 phrase-back c M is v low high t u =
-    picked-else (M v) (leb v 15) 1 (low + 16 * v) (cond (leb 17 v && leb v 23) (pair 1 (high + 16 * (v - 16))) noBytes)
-    (λ e. let h = leb-true v 15 e in coded-good c M is (low + 16 * v) v (every-at (λ k. codedIs c (low + 16 * k) k) 16 t v (omega arith)))
-    (picked (M v) (leb 17 v && leb v 23) 1 (high + 16 * (v - 16)) upper)
+    picked-back-else (M v) (leb v 15) 1 (low + 16 * v) (cond (leb 17 v && leb v 23) (pair 1 (high + 16 * (v - 16))) noBytes)
+    (λ e. let h = leb-true v 15 e in coded-means c M is (low + 16 * v) v (every-at (λ k. codedIs c (low + 16 * k) k) 16 t v (omega arith)))
+    (picked-back (M v) (leb 17 v && leb v 23) 1 (high + 16 * (v - 16)) upper)
   where
     upper : leb 17 v && leb v 23 ≡ true → Means (M v) 1 (high + 16 * (v - 16))
     upper e =
         let g = leb-true 17 v (both-left (leb 17 v) (leb v 23) e) in
         let h = leb-true v 23 (both-right (leb 17 v) (leb v 23) e) in
         let s : 17 + (v - 17) ≡ v = omega arith in
-        coded-good c M is (high + 16 * (v - 16)) v
+        coded-means c M is (high + 16 * (v - 16)) v
         (rw (s) at (every-at (λ k. codedIs c (high + 16 * (17 + k - 16)) (17 + k)) 7 u (v - 17) (omega arith)))
 
 pub single-back : (M : ℕ → Meaning) (first v most : ℕ) → ((n : ℕ) → n ≤ most → meaningOf first n ≡ accepted (M n))
     → T (ltb first 256) → T (ltb most 256) → ReadsBack (M v) (alone first v most)
 single-back M first v most is f m =
-    picked (M v) (leb v most) first v
+    picked-back (M v) (leb v most) first v
     (λ e. let low = leb-true v most e in let top = ltb→lt most 256 m in (is v low, ltb→lt first 256 f, omega arith))
 
-pub joined-good : (m : Meaning) (v most base step : ℕ) → v ≤ most → T (ltb (base + step * (most / 256)) 256)
+pub joined-means : (m : Meaning) (v most base step : ℕ) → v ≤ most → T (ltb (base + step * (most / 256)) 256)
     → meaningOf (base + step * (v / 256)) (v % 256) ≡ accepted m → Means m (base + step * (v / 256)) (v % 256)
-joined-good m v most base step low top is =
+joined-means m v most base step low top is =
     (is, stepped (v / 256) (most / 256) base step (omega (arith, low)) (ltb→lt (base + step * (most / 256)) 256 top), omega arith)
 
 pub joined-back : (M : ℕ → Meaning) (v most base step : ℕ) → T (ltb (base + step * (most / 256)) 256)
     → ((n : ℕ) → n ≤ most → meaningOf (base + step * (n / 256)) (n % 256) ≡ accepted (M n)) → ReadsBack (M v) (joined v most base step)
 joined-back M v most base step top is =
-    picked (M v) (leb v most) (base + step * (v / 256)) (v % 256)
-    (λ e. joined-good (M v) v most base step (leb-true v most e) top (is v (leb-true v most e)))
+    picked-back (M v) (leb v most) (base + step * (v / 256)) (v % 256)
+    (λ e. joined-means (M v) v most base step (leb-true v most e) top (is v (leb-true v most e)))
 
 pub signed-back : (M : ℤ → Meaning) (first below above : ℕ)
     → ((n : ℕ) → n ≤ above → meaningOf first n ≡ accepted (M (pos n)))
@@ -104,10 +107,10 @@ signed-back M first below above up down f a (pos n) =
     cases (leb n above)
     (λ e. let low = leb-true n above e in
     let top = ltb→lt above 256 a in
-    rw e (picked (M (pos n)) (leb n 255) first n (λ q. (up n low, ltb→lt first 256 f, omega arith))))
+    rw e (picked-back (M (pos n)) (leb n 255) first n (λ q. (up n low, ltb→lt first 256 f, omega arith))))
     (λ e. rw e (refl, refl))
 signed-back M first below above up down f a (negsuc n) =
     cases (leb (n + 1) below)
     (λ e. let low = leb-true (n + 1) below e in
-    rw e (picked (M (negsuc n)) (leb (256 - (n + 1)) 255) first (256 - (n + 1)) (λ q. (down n low, ltb→lt first 256 f, omega arith))))
+    rw e (picked-back (M (negsuc n)) (leb (256 - (n + 1)) 255) first (256 - (n + 1)) (λ q. (down n low, ltb→lt first 256 f, omega arith))))
     (λ e. rw e (refl, refl))

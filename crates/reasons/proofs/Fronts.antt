@@ -1,5 +1,5 @@
 -- A text put into the front of a list, cut where the list is shorter.
--- front-cut, front-whole   what a copy comes to, in each case
+-- front-cut, front-whole   what a copy leaves, in each case
 use Prim.Native.Nat.{ℕ, _+_, _<_, _≤_, min}
 use mathlib.Core.Path.{_≡_}
 use mathlib.Core.List.{List}

@@ -1,12 +1,12 @@
 -- Laws of ordered tests, for every list of them.
--- passed-none, none-passed   a list passes exactly when none of its tests applies
--- first-answers              the answer is that of the first test that applies
--- none-append                none of a list applies, so none of its second part
--- later, first-append        a list in two parts: the second counts where the first passes
--- testedAll, tested-first    tests made one by one come to what the list comes to
--- first-above                the number with which tests refuse is above 0
--- refused-once               a refusal is known by its number and place
--- two-ways                   nothing is both accepted and refused
+-- passed-none, none-passed    a list passes exactly when none of its tests applies
+-- first-answers               the answer is that of the first test that applies
+-- none-append                 none of a list applies, so none of its second part
+-- firstFailed, first-append   a list in two parts: the second counts where the first passes
+-- testedAll, tested-first     tests made one by one have the list's verdict
+-- first-above                 the number with which tests refuse is above 0
+-- refused-once                a refusal is known by its number and place
+-- two-ways                    nothing is both accepted and refused
 -- guarded-passed, guarded-accepted   what comes after tests is accepted only where they pass
 use Prim.Native.Nat.{ℕ, _<_}
 use mathlib.Core.Path.{_≡_, refl, subst}
@@ -21,13 +21,13 @@ use Rattle.refusals.specs.Numbers.{Reason, Outcome, numberOf, number-abo
 use Rattle.refusals.specs.Numbers.Outcome.{accepted, refused}
 use Rattle.refusals.specs.Tests.{Test, test, firstOf, None, guarded, tested}
 
-pick-passed : (b : Bool) (n : ℕ) (v : Verdict) → cond b (Failed n) v ≡ Passed → (b ≡ false) × (v ≡ Passed)
-pick-passed true n v e = let z : _≡_ {A = ℕ} 0 1 = cc in absurd (omega arith)
-pick-passed false n v e = (refl, e)
+cond-passed : (b : Bool) (n : ℕ) (v : Verdict) → cond b (Failed n) v ≡ Passed → (b ≡ false) × (v ≡ Passed)
+cond-passed true n v e = let z : _≡_ {A = ℕ} 0 1 = cc in absurd (omega arith)
+cond-passed false n v e = (refl, e)
 
 pub passed-none : (ts : List Test) → firstOf ts ≡ Passed → None ts
 passed-none [] e = tt
-passed-none (t ∷ ts) e = let p = pick-passed (t .applies) (numberOf (t .reason)) (firstOf ts) e in (p .0, passed-none ts (p .1))
+passed-none (t ∷ ts) e = let p = cond-passed (t .applies) (numberOf (t .reason)) (firstOf ts) e in (p .0, passed-none ts (p .1))
 
 pub none-passed : (ts : List Test) → None ts → firstOf ts ≡ Passed
 none-passed [] h = refl
@@ -42,11 +42,11 @@ pub none-append : (ts us : List Test) → None (ts ++ us) → None us
 none-append [] us h = h
 none-append (t ∷ ts) us h = none-append ts us (h .1)
 
-abbrev pub later : Verdict → Verdict → Verdict
-later Passed v = v
-later (Failed n) v = Failed n
+abbrev pub firstFailed : Verdict → Verdict → Verdict
+firstFailed Passed v = v
+firstFailed (Failed n) v = Failed n
 
-pub first-append : (ts us : List Test) → firstOf (ts ++ us) ≡ later (firstOf ts) (firstOf us)
+pub first-append : (ts us : List Test) → firstOf (ts ++ us) ≡ firstFailed (firstOf ts) (firstOf us)
 first-append [] us = refl
 first-append (t ∷ ts) us = cases (t .applies) (λ e. rw e) (λ e. rw e (first-append ts us))
 

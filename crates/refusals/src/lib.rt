@@ -85,7 +85,7 @@ impl Refusal {
     }
 }
 
-// What tests made in order come to: none has applied, or the number of the first that did.
+// The verdict of tests made in order: none has applied, or the number of the first that did.
 pub enum Verdict {
     Passed,
     Failed(u32),

@@ -16,7 +16,7 @@ use Rattle.refusals.specs.Numbers.Outcome.{accepted}
 use Rattle.refusals.specs.declared.Verdict.{Verdict}
 use Rattle.refusals.specs.declared.Verdict.the-variants.{Passed, Failed}
 use Rattle.refusals.specs.Tests.{firstOf, guarded}
-use Rattle.refusals.specs.Laws.{later, passed-none}
+use Rattle.refusals.specs.Laws.{firstFailed, passed-none}
 use Rattle.fields.specs.Numbers.{be16, be32}
 use Rattle.sidheader.specs.declared.Fields.{Fields}
 use Rattle.sidheader.specs.Fields.{fieldsOf}
@@ -102,12 +102,12 @@ too-long f x o h =
 
 -- a long file is refused by its header or with 10
 by-long : (f : List ℕ) (v : Verdict) → firstOf (headerTests (fieldsOf f)) ≡ v → 65663 ≤ fieldsOf f .size
-    → sidOutcome f ≡ guarded (later v (Failed 10)) (accepted (header f))
+    → sidOutcome f ≡ guarded (firstFailed v (Failed 10)) (accepted (header f))
 unfolding sidOutcome
 by-long f Passed e h = rw (first-parts f (fieldsOf f) (payloadOf f (fieldsOf f)) refl refl, e, too-long f (fieldsOf f) (offset-passed (fieldsOf f) e) h)
 by-long f (Failed m) e h = rw (first-parts f (fieldsOf f) (payloadOf f (fieldsOf f)) refl refl, e)
 
-either : {A : Type 0} (v : Verdict) (a b : Outcome A) → guarded (later v (Failed 10)) a ≡ guarded (later v (Failed 10)) b
+either : {A : Type 0} (v : Verdict) (a b : Outcome A) → guarded (firstFailed v (Failed 10)) a ≡ guarded (firstFailed v (Failed 10)) b
 either Passed a b = refl
 either (Failed m) a b = refl
 

@@ -1,7 +1,7 @@
--- What each way through the tests comes to. Assumes nothing.
--- first-parts                                            the tests of a file, by the two lists of them
+-- The outcome of each way through the tests. Assumes nothing.
+-- first-parts     the tests of a file, by the two lists of them
 -- too-short, header-failed, payload-failed, all-passed   testing, by the verdicts of the two lists
--- payload-short                                          the payload is no longer than the file
+-- payload-short   the payload is no longer than the file
 use Prim.Native.Nat.{ℕ, _<_, _≤_}
 use mathlib.Core.Path.{_≡_}
 use mathlib.Core.List.{List}
@@ -12,7 +12,7 @@ use Rattle.logic.specs.Cases.{cases}
 use Rattle.refusals.specs.Numbers.Outcome.{accepted, refused}
 use Rattle.refusals.specs.declared.Verdict.the-variants.{Passed, Failed}
 use Rattle.refusals.specs.Tests.{firstOf, guarded}
-use Rattle.refusals.specs.Laws.{later, first-append}
+use Rattle.refusals.specs.Laws.{firstFailed, first-append}
 use Rattle.sidheader.specs.declared.Fields.{Fields}
 use Rattle.sidheader.specs.declared.Payload.{Payload}
 use Rattle.sidheader.specs.Fields.{fieldsOf}
@@ -26,11 +26,11 @@ unfolding testedOutcome sidTests fieldsOf
 too-short f h = rw (lt-ltb (length f) 118 h)
 
 module _ (f : List ℕ) (x : Fields) (p : Payload) (ex : x ≡ fieldsOf f) (ep : p ≡ payloadOf f x) where
-  pub first-parts : firstOf (sidTests f) ≡ later (firstOf (headerTests x)) (firstOf (payloadTests x p))
+  pub first-parts : firstOf (sidTests f) ≡ firstFailed (firstOf (headerTests x)) (firstOf (payloadTests x p))
   unfolding sidTests
   first-parts = rw (ep, ex, first-append (headerTests (fieldsOf f)) (payloadTests (fieldsOf f) (payloadOf f (fieldsOf f))))
 
-  by-parts : testedOutcome f ≡ guarded (later (firstOf (headerTests x)) (firstOf (payloadTests x p))) (accepted (passing x p))
+  by-parts : testedOutcome f ≡ guarded (firstFailed (firstOf (headerTests x)) (firstOf (payloadTests x p))) (accepted (passing x p))
   unfolding testedOutcome
   by-parts = rw (first-parts, ep, ex)
 

@@ -18,7 +18,7 @@ use Rattle.sid.specs.declared.Header.{Header}
 use Rattle.sid.specs.declared.Reading.{Reading}
 use Rattle.sid.specs.declared.Reading.the-variants.{Accepted, Refused}
 use Rattle.sid.specs.declared.Tested.{Tested}
-use Rattle.sid.specs.declared.Tested.the-variants as tested
+use Rattle.sid.specs.declared.Tested.the-variants as answer
 use Rattle.sid.specs.Header.{headerOf}
 
 abbrev pub outcomeOfTune : Reading → Outcome Header
@@ -36,8 +36,8 @@ abbrev pub passing : Fields → Payload → Passing
 passing x p = record { fields = x; payload = p }
 
 abbrev pub outcomeOfTested : Tested → Outcome Passing
-outcomeOfTested (tested.Passed x p) = accepted (passing x p)
-outcomeOfTested (tested.Refused x) = refused (x .number) (x .place)
+outcomeOfTested (answer.Passed x p) = accepted (passing x p)
+outcomeOfTested (answer.Refused x) = refused (x .number) (x .place)
 
 unfoldable pub testedOutcome : List ℕ → Outcome Passing
 testedOutcome f = guarded (firstOf (sidTests f)) (accepted (passing (fieldsOf f) (payloadOf f (fieldsOf f))))

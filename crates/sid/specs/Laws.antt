@@ -4,7 +4,7 @@
 -- none-accepted, accepted-none   'accepted exactly when no listed refusal applies'
 -- tune-once         no two answers have the same outcome: an equation of `outcomeOfTune` leaves the answer no
 --                   freedom
--- headed-guarded, read-headed   what tests come to, with the header made, is what the call comes to
+-- headed-guarded, read-headed   the outcome of the tests, with the header made, is that of the call
 -- accepted-header   the header of an accepted file
 -- accepted-fits     its payload lies within the 65,536 cells
 -- payload-whole     its payload has as many bytes as the header says

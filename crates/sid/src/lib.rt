@@ -47,7 +47,7 @@ pub enum Reading {
     Refused(Refusal),
 }
 
-// What the tests of a file come to: what its header is made of, or the first refusal that applies.
+// The answer of a file's tests: what its header is made of, or the first refusal that applies.
 pub enum Tested {
     Passed(Fields, sidheader::Payload),
     Refused(Refusal),

@@ -1,6 +1,6 @@
--- What each way through a load comes to, by the size of memory and by the tests. Assumes nothing.
--- wrong-size                       another size
--- put-refused, put-fits, put-done  the file refused; its payload fits, and where it is then
+-- The outcome of each way through a load, by the size of memory and by the tests. Assumes nothing.
+-- wrong-size   another size
+-- put-refused, put-fits, put-done   the file refused; its payload fits, and where it is then
 use Prim.Native.Nat.{ℕ, _+_, _≤_}
 use mathlib.Core.Path.{_≡_, sym}
 use mathlib.Core.List.{List}

@@ -1,5 +1,5 @@
 -- Laws of loading.
--- load-headed     what tests come to, with the header made, is what the call comes to
+-- load-headed     the outcome of the tests, with the header made, is that of the call
 -- memory-loaded   an accepted file puts its payload into a memory of 65,536 cells, and nothing else
 -- memory-length   loading never changes how many cells there are
 use Prim.Native.Nat.{ℕ}

@@ -1,4 +1,4 @@
--- What a part of a file comes to, by the reading of the file. Assumes nothing.
+-- What a part of a file is, by the reading of the file. Assumes nothing.
 -- piece-refused, piece-accepted   nothing, and the part
 use Prim.Native.Nat.{ℕ}
 use mathlib.Core.Path.{_≡_}

@@ -1,7 +1,8 @@
 -- Document 01, 'PSID and RSID': 'title, author, released text and payload are each a part of the lent bytes'.
--- spanOf                a header's span by the part's name
--- pieceOf               such a part, after the reading of its file
--- pieceIn, titleIn, ..  such a part of an accepted file; of a refused file nothing (docs/DECISIONS.md)
+-- spanOf    a header's span by the part's name
+-- pieceOf   such a part, after the reading of its file
+-- pieceIn   such a part of an accepted file; of a refused file nothing (docs/DECISIONS.md)
+-- titleIn, authorIn, releasedIn, payloadIn   so for each of the four
 use Prim.Native.Nat.{ℕ}
 use mathlib.Core.List.{List, []}
 use Rattle.fields.specs.Parts.{partOf}

@@ -1,4 +1,4 @@
--- What each way through a question for a song's speed comes to, by the tests of the file. Assumes nothing.
+-- The outcome of each way through a question for a song's speed, by the tests of the file. Assumes nothing.
 -- song-refused, no-song, song-bit   the file refused, no such song, and its bit
 use Prim.Native.Nat.{ℕ}
 use mathlib.Core.Path.{_≡_}

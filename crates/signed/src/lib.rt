@@ -1,4 +1,4 @@
-// Where unsigned numbers become signed ones and signed ones come apart again. Internal: for our other crates.
+// Where unsigned numbers become signed ones and signed ones come apart again. Internal.
 // All other code of the pairs stays with unsigned numbers.
 ghost use mathlib.Core.Path.{_≡_};
 ghost use lib.IntN.{subℕ};

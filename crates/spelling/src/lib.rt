@@ -1,4 +1,4 @@
-// A command's two bytes by the kind of its value, in the writer's spelling. Internal: for our other crates.
+// A command's two bytes by the kind of its value, in the writer's spelling. Internal.
 // Each answers 43 where no pair has the value.
 ghost use mathlib.Core.Path.{_≡_};
 ghost use Prim.Native.Nat.{_+_, _*_, _/_, _<_};

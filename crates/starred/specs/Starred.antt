@@ -1,11 +1,11 @@
 -- Document 01, 'Sums on the bench': every starred sum is right. One table under one statement.
 -- Sum                       a pair and what it means; or the second byte of a note, its pitch and half-step;
---                           or the init field and the load address of an RSID file and what tests 1 to 13
---                           come to
+--                           or the init field and the load address of an RSID file and the verdict of tests 1
+--                           to 13
 -- pitch, note               a pitch and a note of these parts
 -- rsidFields, rsidPayload   the header and the payload of an RSID file, BASIC clear, that no test but 11 and
 --                           12 can refuse at these addresses
--- rsidVerdict               what tests 1 to 13 come to for that file
+-- rsidVerdict               the verdict of tests 1 to 13 for that file
 -- Holds                     what a sum says: one equation, or two of a pitch
 -- starred                   the table, in the paper's order; of RSID the effective init by the field, then by
 --                           the load address where the field is 0

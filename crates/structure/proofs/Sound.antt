@@ -15,7 +15,7 @@ use Rattle.kind.specs.declared.Kind.the-variants.{Event, Hed, Tal, Def, End, Ca
 use Rattle.kind.specs.Kinds.{kindOf}
 use Rattle.bodies.specs.Bodies as bodies
 use Rattle.bodies.specs.Bodies.{Closer, byTal, byEnd, byStop, Body, done, event, repeat, phrase, call, inner, outer, withPair, eventAt, bodyOf}
-use Rattle.bodies.specs.Order.{also, closes, Flat, Ordered, Shut, Sound}
+use Rattle.bodies.specs.Order.{also, closedIn, Flat, Ordered, Shut, Sound}
 use Rattle.bodies.proofs.Phrases.{differ, flat-closes}
 use Rattle.structure.specs.Tests.{pairTests, Opener, byHed, byDef, Nesting, anyDef, any, nestingTests, openersAfter, nestingAfter, start}
 use Rattle.structure.specs.Findings.{isLast, pairsTests, nestingsTests, AllNone}
@@ -39,7 +39,7 @@ left (byDef k) K = also k K
 -- the bodies that are open fit what opened them
 unfoldable Chain : (ℕ → Bool) → List Opener → List Body → Type 0
 Chain K [] bs = Fits K [] (inner bs) × (outer bs ≡ [])
-Chain K (o ∷ os) bs = Fits K (o ∷ os) (inner bs) × Chain (left o (closes K (inner bs))) os (outer bs)
+Chain K (o ∷ os) bs = Fits K (o ∷ os) (inner bs) × Chain (left o (closedIn K (inner bs))) os (outer bs)
 
 module _ (K : ℕ → Bool) (bs : List Body) where
   chain-fits : (os : List Opener) → Chain K os bs → Fits K os (inner bs)
@@ -48,25 +48,25 @@ module _ (K : ℕ → Bool) (bs : List Body) where
   chain-fits (o ∷ os) c = c .0
 
   -- a pair put before the body that was opened last, closing nothing
-  chain-before : (b : Body) → closes K b ≡ closes K (inner bs) → (os : List Opener) → (Fits K os (inner bs) → Fits K os b) → Chain K os bs → Chain K os (b ∷ outer bs)
+  chain-before : (b : Body) → closedIn K b ≡ closedIn K (inner bs) → (os : List Opener) → (Fits K os (inner bs) → Fits K os b) → Chain K os bs → Chain K os (b ∷ outer bs)
   unfolding Chain inner outer
   chain-before b e [] f c = (f (c .0), c .1)
   chain-before b e (o ∷ os) f c = (f (c .0), subst (λ (L : ℕ → Bool). Chain (left o L) os (outer bs)) (sym e) (c .1))
 
   event-chain : (e : bodies.Event) (os : List Opener) → Chain K os bs → Chain K os (event e (inner bs) ∷ outer bs)
-  unfolding closes Flat Ordered Shut
+  unfolding closedIn Flat Ordered Shut
   event-chain e os c = chain-before (event e (inner bs)) refl os (λ f. record { flat = f .flat; ordered = f .ordered; shut = f .shut }) c
 
   call-chain : (k : ℕ) → K k ≡ true → (os : List Opener) → Chain K os bs → Chain K os (call k (inner bs) ∷ outer bs)
-  unfolding closes Flat Ordered Shut
+  unfolding closedIn Flat Ordered Shut
   call-chain k h os c = chain-before (call k (inner bs)) refl os (λ f. record { flat = f .flat; ordered = (h, f .ordered); shut = f .shut }) c
 
-  hed-fits : (n : ℕ) (os : List Opener) → Fits K (byHed ∷ os) (inner bs) → Fits (closes K (inner bs)) os (inner (outer bs)) → Fits K os (repeat n (inner bs) (inner (outer bs)))
+  hed-fits : (n : ℕ) (os : List Opener) → Fits K (byHed ∷ os) (inner bs) → Fits (closedIn K (inner bs)) os (inner (outer bs)) → Fits K os (repeat n (inner bs) (inner (outer bs)))
   unfolding Flat Ordered Shut
   hed-fits n os f g = record { flat = λ h. (f .flat h, g .flat h); ordered = (f .ordered, g .ordered); shut = (f .shut, g .shut) }
 
   hed-chain : (n : ℕ) (os : List Opener) → Chain K (byHed ∷ os) bs → Chain K os (repeat n (inner bs) (inner (outer bs)) ∷ outer (outer bs))
-  unfolding Chain inner outer closes
+  unfolding Chain inner outer closedIn
   hed-chain n [] c = (hed-fits n [] (c .0) (c .1 .0), c .1 .1)
   hed-chain n (o ∷ os) c = (hed-fits n (o ∷ os) (c .0) (c .1 .0), c .1 .1)
 
@@ -77,7 +77,7 @@ module _ (K : ℕ → Bool) (bs : List Body) where
       record { flat = λ e. absurd (differ (sym a ∙ e)); ordered = (h, f .flat refl, f .ordered, g .ordered); shut = (f .shut, g .shut) }
 
   def-chain : (k : ℕ) (os : List Opener) → K k ≡ false → anyDef os ≡ false → Chain K (byDef k ∷ os) bs → Chain K os (phrase k (inner bs) (inner (outer bs)) ∷ outer (outer bs))
-  unfolding Chain inner outer closes
+  unfolding Chain inner outer closedIn
   def-chain k os h a c = go os a (c .0) (subst (λ (L : ℕ → Bool). Chain (also k L) os (outer bs)) (flat-closes K (inner bs) (c .0 .flat refl)) (c .1))
     where
       go : (os : List Opener) → anyDef os ≡ false → Fits K (byDef k ∷ os) (inner bs) → Chain (also k K) os (outer bs)
@@ -86,11 +86,11 @@ module _ (K : ℕ → Bool) (bs : List Body) where
       go (o ∷ os) a f c = (def-fits k (o ∷ os) h a f (c .0), c .1)
 
   tal-chain : (os : List Opener) → Chain K os bs → Chain K (byHed ∷ os) (done byTal ∷ bs)
-  unfolding Chain inner outer closes Flat Ordered Shut
+  unfolding Chain inner outer closedIn Flat Ordered Shut
   tal-chain os c = (record { flat = λ h. tt; ordered = tt; shut = refl }, c)
 
   end-chain : (k : ℕ) (os : List Opener) → Chain (also k K) os bs → Chain K (byDef k ∷ os) (done byEnd ∷ bs)
-  unfolding Chain inner outer closes Flat Ordered Shut
+  unfolding Chain inner outer closedIn Flat Ordered Shut
   end-chain k os c = (record { flat = λ h. tt; ordered = tt; shut = refl }, c)
 
 -- a pair that 30 does not refuse: from what is open after it to what is open at it

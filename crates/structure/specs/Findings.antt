@@ -4,7 +4,7 @@
 -- isLast             whether no pair is left
 -- pairsTests         27 to 29 for each pair of a voice
 -- nestingsTests      30 and 31 for each pair, by what is open and closed there
--- pairsFinding, structureFinding   what they come to
+-- pairsFinding, structureFinding   what they find
 -- AllNone            none of the tests applies to any pair
 use Prim.Native.Nat.{ℕ, _+_}
 use mathlib.Core.Bool.{Bool, true, false}

@@ -11,7 +11,7 @@ use refusals::Verdict;
 mod nesting;
 mod single;
 
-// What tests made pair by pair come to: none has applied, or the first that did, by its number and its pair's
+// What tests made pair by pair find: none has applied, or the first that did, by its number and its pair's
 // number.
 pub enum Finding {
     Clear,

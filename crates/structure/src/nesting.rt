@@ -17,7 +17,7 @@ pub struct Open {
 
 pub const NONE: usize = 24;
 
-// What a pair comes to: what is open after it, with the number that an END closes; or a refusal's number.
+// What a pair leaves: what is open after it, with the number that an END closes; or a refusal's number.
 pub enum Step {
     On(Open),
     Closes(Open, usize),

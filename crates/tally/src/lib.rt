@@ -121,7 +121,7 @@ pub fn with_call(a: Counts, b: Counts) -> Counts
 }
 
 // internal: counts in one number, for a phrase's cell.
-pub fn coded(a: Counts) -> u64
+pub fn packed_counts(a: Counts) -> u64
     requires { ⌜ Small a ⌝ }
     ensures { λ r. ⌜ r ≡ packedCounts a ⌝ }
 {
@@ -129,7 +129,7 @@ pub fn coded(a: Counts) -> u64
 }
 
 // internal: the counts that a number holds.
-pub fn decoded(x: u64) -> Counts
+pub fn unpacked_counts(x: u64) -> Counts
     ensures { λ r. ⌜ r ≡ unpackedCounts x ⌝ }
 {
     Counts {

@@ -7,7 +7,7 @@
 -- inCall, closerOf             whether a call is among them; what closes the innermost
 -- Closed                       a body with that closer, and in a call no DEF in it
 -- shut-closed, flat-closed     from acceptance
--- eventsIn, pairsIn, depthIn   what a body of a voice comes to
+-- eventsIn, pairsIn, depthIn   what is made of a body of a voice
 -- later, toWalk                the events and the pairs after the body that is being walked, by the bodies
 --                              that are open around it
 -- BodyFits, OuterFit           the body that is being walked, and those around it, fit their context

@@ -20,7 +20,7 @@ use Rattle.bodies.specs.Bodies as bodies
 use Rattle.bodies.specs.Bodies.{Closer, byTal, byEnd, Body, done, event, repeat, phrase, call, inner, outer, withPair, eventAt, bodyOf}
 use Rattle.bodies.specs.Voice.{pairs, pairAt}
 use Rattle.bodies.specs.Playing.{playing, walking, nesting, phrasesOf}
-use Rattle.bodies.specs.Order.{also, closes, Ordered, Shut, Sound}
+use Rattle.bodies.specs.Order.{also, closedIn, Ordered, Shut, Sound}
 use Rattle.bodies.specs.Places.{openAt, bodyAt}
 use Rattle.bodies.proofs.Meant.{Meant, voice-meant}
 use Rattle.bodies.proofs.Stored.{pairs-cons, open-cons}
@@ -101,7 +101,7 @@ module _ (bs : List ℕ) where
     pub cal : (i k : ℕ) → i < length bs / 2 → kindOf (pairAt bs i) ≡ Cal k → Before i k
     pub def : (i k : ℕ) → i < length bs / 2 → kindOf (pairAt bs i) ≡ Def k → Start bs k (i + 1)
 
-  -- each DEF in a body stands for what CALs of its number come to
+  -- each DEF in a body stands for what CALs of its number give
   unfoldable Starts : Body → Type 0
   Starts (done c) = Unit
   Starts (event e r) = Starts r
@@ -115,7 +115,7 @@ module _ (bs : List ℕ) where
   starts K c (done d) o s p w n = tt
   starts K c (event e r) o s p w n = starts K c r o s p w n
   starts K c (repeat t i r) o s p w n =
-      (starts K byTal i (o .0) (s .0) (p .0) (w .0) (n .0), starts (closes K i) c r (o .1) (s .1) (p .1) (w .1) (n .1))
+      (starts K byTal i (o .0) (s .0) (p .0) (w .0) (n .0), starts (closedIn K i) c r (o .1) (s .1) (p .1) (w .1) (n .1))
   starts K c (phrase k i r) o s p w n = (
     record { is-closed = flat-closed byEnd i (o .1) (s .0); events = p .0; steps = w .0; depth = n .0 },
     starts K byEnd i (o .2) (s .0) (p .1) (w .1) (n .1),

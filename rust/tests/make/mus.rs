@@ -273,7 +273,7 @@ pub fn event(rng: &mut Rng) -> [u8; 2] {
     }
 }
 
-/// The second byte behind 01 of a command that makes no body: the n0, n1, n4, n5, n7, n8 to nA, nC
+/// The second byte after 01 of a command that makes no body: the n0, n1, n4, n5, n7, n8 to nA, nC
 /// to nE columns are whole.
 fn command_byte(byte: u8) -> u8 {
     match byte & 0x0F {

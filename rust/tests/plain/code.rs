@@ -149,7 +149,7 @@ fn decode_pitch(tone: u32) -> Option<Pitch> {
     })
 }
 
-/// The commands behind 01, by their least second byte.
+/// The commands after 01, by their least second byte.
 fn by_second(least: u8) -> Option<Command> {
     Some(match least {
         0x00 => Dcy,

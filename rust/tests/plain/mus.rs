@@ -98,7 +98,7 @@ fn container(file: &[u8]) -> Result<[Voice; 3], Refusal> {
     }
 }
 
-/// Where the text ends: behind five closed lines and a zero.
+/// Where the text ends: after five closed lines and a zero.
 fn text_end(text: &[u8]) -> Option<usize> {
     let mut end = 0;
     for _ in 0..5 {

@@ -397,7 +397,7 @@ fn write_command(command: Command, value: i32) -> Result<[u8; 2], u32> {
     })
 }
 
-/// The second byte behind 01.
+/// The second byte after 01.
 fn write_second(command: Command, value: u8) -> Result<u8, u32> {
     let low = command as u8;
     Ok(match command {

@@ -4,7 +4,7 @@ use mathlib.Core.Path.{sym, subst, _∙_}
 use native.Mathlib.Omega.{arith}
 use Rattle.kind.specs.Kinds.{Numbered}
 use Rattle.bodies.specs.Bodies.{byTal, byEnd}
-use Rattle.bodies.proofs.Stored.{plain-event, event-at, hlt-at, bad-at, hed-at, tal-at, def-at, end-at, cal-at}
+use Rattle.bodies.proofs.Stored.{plain-pair-event, event-at, hlt-at, bad-at, hed-at, tal-at, def-at, end-at, cal-at}
 use Rattle.bodies.proofs.part_at.Statement.{statement}
 use Rattle.bodies.proofs.part_at.Tie as tie
 
@@ -13,7 +13,7 @@ part-at-spec =
     tie.close
     (tie.spec
     (λ c κs. search needs)
-    (λ c. event-at (c .before .before .before .args .voice .now) (c .before .before .before .args .i) (omega (arith, c .before .before .before .pre)) (plain-event _ _ (sym (c .before .plain-at .ensures) ∙ c .if1 .taken)))
+    (λ c. event-at (c .before .before .before .args .voice .now) (c .before .before .before .args .i) (omega (arith, c .before .before .before .pre)) (plain-pair-event _ _ (sym (c .before .plain-at .ensures) ∙ c .if1 .taken)))
     (λ c κs. search needs)
     (λ c. search needs)
     (λ c. search needs)

@@ -1,4 +1,4 @@
--- `read_container` meets its contract: the head's refusal, or what the tests of the text come to.
+-- `read_container` meets its contract: the head's refusal, or the outcome of the tests of the text.
 use mathlib.Core.Path.{sym, ap, _∙_}
 use native.Mathlib.Omega.{arith}
 use borrow.Author.Needs.{needs}

@@ -15,8 +15,8 @@ use Rattle.counts.specs.Measures.{Measures, MeasureHolds}
 use Rattle.counts.proofs.Readings.{Sum, sum-start, running, event-step, call-step, call-deep, repeat-step, repeat-deep, phrase-step, phrase-deep, close-end, stop-end}
 use Rattle.counts.proofs.measure.Reads as measure
 use Rattle.counts.proofs.measure.Kinds as measure-kinds
-use Rattle.tally.proofs.coded.Reads as coded-reads
-use Rattle.tally.proofs.decoded.Reads as decoded-reads
+use Rattle.tally.proofs.packed_counts.Reads as packed-counts-reads
+use Rattle.tally.proofs.unpacked_counts.Reads as unpacked-counts-reads
 use Rattle.tally.proofs.nothing.Reads as nothing-reads
 use Rattle.tally.proofs.settled.Reads as settled-reads
 use Rattle.tally.proofs.with_call.Reads as with-call-reads
@@ -49,12 +49,12 @@ claims t = (
   measure.Post,
   with-repeat-reads.Asked,
   with-repeat-reads.Learnt,
-  coded-reads.Asked,
-  coded-reads.Learnt,
+  packed-counts-reads.Asked,
+  packed-counts-reads.Learnt,
   with-phrase-reads.Asked,
   with-phrase-reads.Learnt,
-  decoded-reads.Asked,
-  decoded-reads.Learnt,
+  unpacked-counts-reads.Asked,
+  unpacked-counts-reads.Learnt,
   with-call-reads.Asked,
   with-call-reads.Learnt,
   settled-reads.Asked,
@@ -161,8 +161,8 @@ returns-3 t c =
     let p = k .before .before in
     phrase-deep (p .before .before .loop .inv) _ ((subst (IsPart _ _) (k .k .given .1) (p .part-at .ensures)) .0) (subst (MeasureHolds _ _ _ _ _) (c .enum-told3 .given .1) (c .before .before .measure2 .ensures))
 
-coded-requires : (t : ℕ) → lts.Need-coded-requires (claims t) (at t) measure.Post Inv-loop μ-loop
-coded-requires t c κs =
+packed-counts-requires : (t : ℕ) → lts.Need-packed-counts-requires (claims t) (at t) measure.Post Inv-loop μ-loop
+packed-counts-requires t c κs =
     let g : Measures _ _ _ _ (c .before .m2 .given .0 .0) _ = subst (MeasureHolds _ _ _ _ _) (c .before .m2 .given .1) (c .before .before .before .measure2 .ensures) in
     g .small
 
@@ -204,31 +204,31 @@ loop-again-3 t c =
     let m = c .before .before .before .before in
     let p = m .before .before .before .before .before .before .before in
     let g : Measures _ _ _ _ (m .m2 .given .0 .0) _ = subst (MeasureHolds _ _ _ _ _) (m .m2 .given .1) (m .before .before .measure2 .ensures) in
-    phrase-step (p .before .before .loop .inv) _ _ _ _ _ ((subst (IsPart _ _) (m .before .before .before .before .before .k .given .1) (p .part-at .ensures)) .0) ((subst (IsPart _ _) (m .before .before .before .before .before .k .given .1) (p .part-at .ensures)) .1) g (c .before .before .coded .ensures) (c .before .with-phrase .ensures)
+    phrase-step (p .before .before .loop .inv) _ _ _ _ _ ((subst (IsPart _ _) (m .before .before .before .before .before .k .given .1) (p .part-at .ensures)) .0) ((subst (IsPart _ _) (m .before .before .before .before .before .k .given .1) (p .part-at .ensures)) .1) g (c .before .before .packed-counts .ensures) (c .before .with-phrase .ensures)
 
-cast-decoded : (t : ℕ) → lts.Need-cast-decoded (claims t) (at t) measure.Post Inv-loop μ-loop
-cast-decoded t c =
+cast-unpacked-counts : (t : ℕ) → lts.Need-cast-unpacked-counts (claims t) (at t) measure.Post Inv-loop μ-loop
+cast-unpacked-counts t c =
     omega (arith, (subst (IsPart _ _) (c .before .k2 .given .1) (c .before .before .before .part-at .ensures)) .1)
 
-mul-decoded : (t : ℕ) → lts.Need-mul-decoded (claims t) (at t) measure.Post Inv-loop μ-loop
-mul-decoded t c =
+mul-unpacked-counts : (t : ℕ) → lts.Need-mul-unpacked-counts (claims t) (at t) measure.Post Inv-loop μ-loop
+mul-unpacked-counts t c =
     omega (arith, (subst (IsPart _ _) (c .before .k2 .given .1) (c .before .before .before .part-at .ensures)) .1)
 
-element-copy-out-decoded : (t : ℕ) → lts.Need-element-copy-out-decoded (claims t) (at t) measure.Post Inv-loop μ-loop
-element-copy-out-decoded t c =
+element-copy-out-unpacked-counts : (t : ℕ) → lts.Need-element-copy-out-unpacked-counts (claims t) (at t) measure.Post Inv-loop μ-loop
+element-copy-out-unpacked-counts t c =
     omega (arith, (subst (IsPart _ _) (c .before .k2 .given .1) (c .before .before .before .part-at .ensures)) .1)
 
 returns-4 : (t : ℕ) → lts.Need-returns-4 (claims t) (at t) measure.Post Inv-loop μ-loop
 returns-4 t c =
     let k = c .before .before .before .before .before in
     let p = k .before .before in
-    call-deep (p .before .before .loop .inv) _ _ ((subst (IsPart _ _) (k .k2 .given .1) (p .part-at .ensures)) .0) (c .before .before .decoded .ensures) (c .if2 .taken)
+    call-deep (p .before .before .loop .inv) _ _ ((subst (IsPart _ _) (k .k2 .given .1) (p .part-at .ensures)) .0) (c .before .before .unpacked-counts .ensures) (c .if2 .taken)
 
 with-call-requires : (t : ℕ) → lts.Need-with-call-requires (claims t) (at t) measure.Post Inv-loop μ-loop
 with-call-requires t c κs =
     let k = c .before .before .before .before .before in
     let p = k .before .before in
-    (running (p .before .before .loop .inv), subst Small (sym (c .before .before .decoded .ensures)) (p .before .before .loop .inv .cells-ready .small (k .k2 .given .0 .0)))
+    (running (p .before .before .loop .inv), subst Small (sym (c .before .before .unpacked-counts .ensures)) (p .before .before .loop .inv .cells-ready .small (k .k2 .given .0 .0)))
 
 add-at-4 : (t : ℕ) → lts.Need-add-at-4 (claims t) (at t) measure.Post Inv-loop μ-loop
 add-at-4 t c =
@@ -243,7 +243,7 @@ loop-again-4 : (t : ℕ) → lts.Need-loop-again-4 (claims t) (at t) measure.Pos
 loop-again-4 t c =
     let k = c .before .before .before .before .before .before in
     let p = k .before .before in
-    call-step (p .before .before .loop .inv) _ _ _ (p .before .loop-test .taken) ((subst (IsPart _ _) (k .k2 .given .1) (p .part-at .ensures)) .0) (c .before .before .before .decoded .ensures) (omega (arith, c .before .if2 .left)) (c .with-call .ensures)
+    call-step (p .before .before .loop .inv) _ _ _ (p .before .loop-test .taken) ((subst (IsPart _ _) (k .k2 .given .1) (p .part-at .ensures)) .0) (c .before .before .before .unpacked-counts .ensures) (omega (arith, c .before .if2 .left)) (c .with-call .ensures)
 
 settled-requires : (t : ℕ) → lts.Need-settled-requires (claims t) (at t) measure.Post Inv-loop μ-loop
 settled-requires t c κs =
@@ -296,7 +296,7 @@ pub +measure-spec : {M : Type 1} → statement M
     (λ c. search needs)
     (returns-3 t)
     (λ c. search needs)
-    (coded-requires t)
+    (packed-counts-requires t)
     (cast-cells t)
     (mul-cells t)
     (element-write-cells t)
@@ -305,9 +305,9 @@ pub +measure-spec : {M : Type 1} → statement M
     (loop-less-3 t)
     (loop-again-3 t)
     (λ c. search needs)
-    (cast-decoded t)
-    (mul-decoded t)
-    (element-copy-out-decoded t)
+    (cast-unpacked-counts t)
+    (mul-unpacked-counts t)
+    (element-copy-out-unpacked-counts t)
     (λ c κs. search needs)
     (returns-4 t)
     (with-call-requires t)

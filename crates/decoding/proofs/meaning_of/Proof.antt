@@ -11,7 +11,7 @@ returns c = rw (c .before .if1 .taken, c .note-at .ensures)
 
 returns-2 : tie.Need-returns-2
 unfolding decoded
-returns-2 c = rw (ne-eqb _ _ (c .before .before .if1 .left), c .before .if2 .taken, c .plain-at .ensures)
+returns-2 c = rw (ne-eqb _ _ (c .before .before .if1 .left), c .before .if2 .taken, c .unsigned-at .ensures)
 
 returns-3 : tie.Need-returns-3
 unfolding decoded

@@ -10,7 +10,7 @@ returns c = rw (c .before .if1 .taken)
 
 returns-2 : tie.Need-returns-2
 returns-2 c =
-    rw (lt-ltb 0 (c .before .before .before .before .args .place .depth) (omega (arith, c .before .before .before .if1 .left)), c .before .if2 .taken, c .behind .ensures)
+    rw (lt-ltb 0 (c .before .before .before .before .args .place .depth) (omega (arith, c .before .before .before .if1 .left)), c .before .if2 .taken, c .pair-after .ensures)
 
 returns-3 : tie.Need-returns-3
 returns-3 c =

@@ -6,7 +6,7 @@ use Rattle.moves.proofs.close_repeat.Statement.{statement}
 use Rattle.moves.proofs.close_repeat.Tie as tie
 
 returns : tie.Need-returns
-returns c = rw (lt-ltb _ _ (c .before .if1 .taken), c .behind .ensures) (refl, refl)
+returns c = rw (lt-ltb _ _ (c .before .if1 .taken), c .pair-after .ensures) (refl, refl)
 
 returns-2 : tie.Need-returns-2
 returns-2 c = rw (le-ltb _ _ (c .before .if1 .left)) (refl, refl)

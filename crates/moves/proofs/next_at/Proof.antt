@@ -2,7 +2,7 @@
 use borrow.Author.Needs.{needs}
 use mathlib.Core.Path.{sym, ap, subst, _∙_}
 use Rattle.kind.specs.Kinds.{Numbered}
-use Rattle.bodies.proofs.Stored.{plain-event}
+use Rattle.bodies.proofs.Stored.{plain-pair-event}
 use Rattle.moves.specs.Moves.{nextOf}
 use Rattle.moves.proofs.next_at.Statement.{statement}
 use Rattle.moves.proofs.next_at.Tie as tie
@@ -12,7 +12,7 @@ next-at-spec =
     tie.close
     (tie.spec
     (λ c κs. search needs)
-    (λ c. (ap nextOf (sym (plain-event _ _ (sym (c .before .plain-at .ensures) ∙ c .if1 .taken))), tt))
+    (λ c. (ap nextOf (sym (plain-pair-event _ _ (sym (c .before .plain-at .ensures) ∙ c .if1 .taken))), tt))
     (λ c κs. search needs)
     (λ c. search needs)
     (λ c. search needs)

@@ -7,7 +7,7 @@ use native.Mathlib.Omega.{arith}
 use lib.ListN.{length, drop}
 use denote.Ref.{now}
 use Rattle.bodies.specs.Voice.{pairs}
-use Rattle.bodies.proofs.Stored.{plain-event}
+use Rattle.bodies.proofs.Stored.{plain-pair-event}
 use Rattle.structure.specs.Findings.{firstAt, pairsTests, pairsFinding}
 use Rattle.structure.proofs.Passes.{pair-failed, pair-passed, plain-passed, pair-end}
 use Rattle.structure.proofs.pairs_finding.Statement.{statement}
@@ -30,7 +30,7 @@ loop-again c =
     let n = length (now (c .before .before .before .before .before .before .args .voice)) / 2 in
     let more : i + 1 < n = c .before .before .if1 .taken in (
       omega (arith, taken),
-      sym (plain-passed _ _ taken (plain-event _ _ (sym (c .before .plain-at .ensures) ∙ c .if2 .taken)) (ne-eqb (i + 1) n (λ e. omega arith))) ∙ c .before .before .before .before .loop .inv .1,
+      sym (plain-passed _ _ taken (plain-pair-event _ _ (sym (c .before .plain-at .ensures) ∙ c .if2 .taken)) (ne-eqb (i + 1) n (λ e. omega arith))) ∙ c .before .before .before .before .loop .inv .1,
     )
 
 returns : tie.Need-returns Inv-loop μ-loop

@@ -4,7 +4,7 @@ use Prim.Native.Nat.{ℕ, _-_, _/_, _<_, _≤_}
 use mathlib.Core.Path.{refl, sym, subst, _∙_}
 use native.Mathlib.Omega.{arith}
 use lib.ListN.{length}
-use Rattle.bodies.proofs.Stored.{plain-event}
+use Rattle.bodies.proofs.Stored.{plain-pair-event}
 use Rattle.structure.specs.Steps.{heds, openersOf}
 use Rattle.structure.proofs.Passes.{Seen, seen-start, none-held, number-few, step-off, step-on, step-closes, step-few, plain-on, nest-end}
 use Rattle.structure.proofs.structure_finding.Statement.{statement}
@@ -52,7 +52,7 @@ returns-2 c = sym (nest-end _ _ _ _ (c .before .loop .inv .1) (omega (arith, c .
 loop-again : tie.Need-loop-again Inv-loop μ-loop
 loop-again c =
     let taken = c .before .before .loop-test .taken in
-    (omega (arith, taken), plain-on _ _ _ _ (c .before .before .before .loop .inv .1) taken (plain-event _ _ (sym (c .before .plain-at .ensures) ∙ c .if1 .taken)))
+    (omega (arith, taken), plain-on _ _ _ _ (c .before .before .before .loop .inv .1) taken (plain-pair-event _ _ (sym (c .before .plain-at .ensures) ∙ c .if1 .taken)))
 
 pub structure-finding-spec : {M : Type 1} → statement M
 structure-finding-spec =

@@ -1,4 +1,4 @@
--- `test_head` meets its contract: tests made one by one come to what the list comes to. Assumes nothing.
+-- `test_head` meets its contract: tests made one by one have the list's verdict. Assumes nothing.
 use native.Mathlib.Omega.{arith}
 use borrow.Author.Needs.{needs}
 use Rattle.refusals.specs.Laws.{tested-first}

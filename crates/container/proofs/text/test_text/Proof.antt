@@ -1,4 +1,4 @@
--- `test_text` meets its contract: tests made one by one come to what the list comes to. Assumes nothing.
+-- `test_text` meets its contract: tests made one by one have the list's verdict. Assumes nothing.
 use borrow.Author.Needs.{needs}
 use Rattle.refusals.specs.Laws.{tested-first}
 use Rattle.container.specs.Text.{textTests}

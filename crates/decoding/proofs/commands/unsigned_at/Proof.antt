@@ -4,14 +4,14 @@ use borrow.Author.Needs.{needs}
 use Rattle.signed.specs.Laws.{kept}
 use Rattle.decoding.specs.Tables.{unsignedCommands}
 use Rattle.decoding.proofs.Lookups.{missed}
-use Rattle.decoding.proofs.commands.plain_at.Statement.{statement}
-use Rattle.decoding.proofs.commands.plain_at.Tie as tie
+use Rattle.decoding.proofs.commands.unsigned_at.Statement.{statement}
+use Rattle.decoding.proofs.commands.unsigned_at.Tie as tie
 
 returns-11 : tie.Need-returns-11
 returns-11 c = rw (missed Unit unsignedCommands (c .before .before .before .args .id) (c .before .match .rest), c .none .ensures)
 
-pub plain-at-spec : {M : Type 1} → statement M
-plain-at-spec =
+pub unsigned-at-spec : {M : Type 1} → statement M
+unsigned-at-spec =
     tie.close
     (tie.spec
     (λ c κs. search needs)
