@@ -2,13 +2,16 @@
 -- full-after, full-placed      a full list takes no more
 -- after-after, placed-placed   one text and then another are both in one
 -- then-after, then-placed      the same of a list and a place that the first text left
-use Prim.Native.Nat.{ℕ, zero, suc, _+_, _-_, _≤_}
+-- fitting-all                  a text that has room is put whole
+-- put-none                     no text changes no cell
+-- put-before                   a text after whose place its last byte stands already is put with that byte
+use Prim.Native.Nat.{ℕ, zero, suc, _+_, _-_, _≤_, _<_}
 use mathlib.Core.Path.{_≡_, refl, sym, ap, _∙_}
 use mathlib.Core.List.{List, [], _∷_, _++_, append-nil, append-assoc}
 use native.Mathlib.Omega.{arith}
 use lib.Dec.{leb}
-use lib.ListN.{length, take, drop, length-append, length-take, drop-of-length-le}
-use lib.Seq.{take-all, take-at, length-take-le, drop-append-add, drop-drop}
+use lib.ListN.{length, take, drop, set, length-append, length-take, drop-of-length-le}
+use lib.Seq.{take-all, take-at, drop-at, length-take-le, drop-append-add, drop-drop, append-snoc, set-split, take-set-le, paste-zero}
 use borrow.Author.Tests.{leb-true, leb-false}
 use Rattle.logic.specs.Cases.{cases}
 use Rattle.fields.specs.Parts.{put}
@@ -28,6 +31,10 @@ module _ (out : List ℕ) (at : ℕ) (text : List ℕ) where
   full-placed h =
       let end : at + 0 ≡ at = omega arith in
       rw (fitting-none h, end, take-all at out h, drop-of-length-le out h) (simp append-nil)
+
+  pub fitting-all : length text ≤ length out - at → fitting out at text ≡ text
+  unfolding fitting
+  fitting-all h = take-all (length out - at) text h
 
   length-fitting : at ≤ length out → at + length (fitting out at text) ≤ length out
   unfolding fitting
@@ -88,3 +95,18 @@ module _ (out : List ℕ) (at : ℕ) (a b : List ℕ) where
 
     pub then-placed : textPlaced mid to b ≡ textPlaced out at (a ++ b)
     then-placed = rw (mid-is, to-is) placed-placed
+
+pub put-none : (m : List ℕ) (at : ℕ) → m ≡ put m at []
+unfolding put
+put-none m at = paste-zero m at []
+
+pub put-before : (m : List ℕ) (at : ℕ) (p : List ℕ) (d : ℕ) → at + length p < length m
+    → put (set m (at + length p) d) at p ≡ put m at (p ++ (d ∷ []))
+unfolding put
+put-before m at p d h =
+    let to = at + length p in
+    let start : length (take to m) ≡ to = length-take-le to m (omega arith) in
+    let later : drop to (set m to d) ≡ d ∷ drop (suc to) m = rw (set-split m to d h) (drop-at (take to m) (d ∷ drop (suc to) m) to start) in
+    let both : at + length (p ++ (d ∷ [])) ≡ suc to = simp length-append (omega arith) in
+    rw (take-set-le at m to d (omega arith), later, both, ← append-assoc (take at m) p (d ∷ []))
+    (sym (append-snoc (take at m ++ p) d (drop (suc to) m)))

@@ -1,4 +1,5 @@
 // What programs print: text put into a lent list, and text written to standard output.
+mod digits;
 mod output;
 mod text;
 

@@ -20,14 +20,30 @@ pub fn put(out: &mut [u8], at: usize, text: &[u8]) -> usize
     at + n
 }
 
-// internal: the decimal digits of a number.
-pub fn put_number(out: &mut [u8], at: usize, n: u64) -> usize
+// The decimal digits of a number, as many of them as have room.
+fn put_fitting(out: &mut [u8], at: usize, n: u64) -> usize
     ensures { λ r. ⌜ r ≡ afterText (now (out .entry)) at (decimal n) ⌝ }
     ensures { λ _. ⌜ now (out .exit) ≡ textPlaced (now (out .entry)) at (decimal n) ⌝ }
 {
     let mut digits = [0u8; 20];
     let k = io::decimal(n, &mut digits);
     put(out, at, &digits[..k])
+}
+
+// internal: the decimal digits of a number. Where all have room, they are made in their place.
+pub fn put_number(out: &mut [u8], at: usize, n: u64) -> usize
+    ensures { λ r. ⌜ r ≡ afterText (now (out .entry)) at (decimal n) ⌝ }
+    ensures { λ _. ⌜ now (out .exit) ≡ textPlaced (now (out .entry)) at (decimal n) ⌝ }
+{
+    if out.len() <= at {
+        return at;
+    }
+    let k = crate::digits::digits_of(n);
+    if out.len() - at < k {
+        return put_fitting(out, at, n);
+    }
+    crate::digits::put_last(out, at, k, n);
+    at + k
 }
 
 // internal: a text and a number after it.

@@ -1,18 +1,46 @@
--- `put_number` meets its contract: what io::decimal gives are the number's decimal digits.
-use mathlib.Core.Path.{_∙_}
+-- `put_number` meets its contract: a full list stays as it is, and digits that all have room are put whole.
+use Prim.Native.Nat.{ℕ, _+_}
+use mathlib.Core.Path.{_≡_, sym, ap, _∙_}
+use mathlib.Core.List.{List}
+use native.Mathlib.Omega.{arith}
 use borrow.Author.Needs.{needs}
-use Rattle.printing.proofs.Decimal.{digits-decimal}
+use denote.Ref.{now}
+use lib.ListN.{length}
+use Rattle.io.specs.Digits.{digits}
+use Rattle.fields.specs.Parts as parts
+use Rattle.printing.specs.Digits.{decimal}
+use Rattle.printing.specs.Placing.{fitting}
+use Rattle.printing.proofs.Decimal.{decimal-digits}
+use Rattle.printing.proofs.Room.{full-after, full-placed, fitting-all}
 use Rattle.printing.proofs.text.put_number.Statement.{statement}
 use Rattle.printing.proofs.text.put_number.Tie as tie
 
 returns : tie.Need-returns
 returns c =
-    let s = c .before .before .before .before .before .before .before .before in
-    let d = c .before .before .before .before .before .decimal in
-    let made = d .ensures .1 .1 ∙ digits-decimal (d .result) (s .args .n) (s .fits .n .fits) (d .ensures .1 .0) in
-    rw made at (c .before .before .put .ensures)
+    let a = c .before .before .args in
+    let full = c .if1 .taken in
+    (full-after (now (a .out)) (a .at) (decimal (a .n)) full, full-placed (now (a .out)) (a .at) (decimal (a .n)) full)
+
+returns-3 : tie.Need-returns-3
+returns-3 c =
+    let a = c .before .before .before .before .before .before .before .before .args in
+    let count = c .before .before .before .before .before .digits-of .ensures in
+    let all : fitting (now (a .out)) (a .at) (decimal (a .n)) ≡ decimal (a .n) =
+    fitting-all (now (a .out)) (a .at) (decimal (a .n)) (omega arith) in
+    let made = rw (count, decimal-digits (a .n)) at (c .before .before .put-last .ensures) in
+    (rw (all, count), rw all made)
 
 pub put-number-spec : {M : Type 1} → statement M
 put-number-spec =
     tie.close
-    (tie.spec (λ c κs. search needs) (λ c. search needs) (λ c. search needs) (λ c κs. search needs) (λ c. search needs) returns)
+    (tie.spec
+    returns
+    (λ c κs. search needs)
+    (λ c. search needs)
+    (λ c κs. search needs)
+    (λ c. search needs)
+    (λ c. search needs)
+    (λ c κs. search needs)
+    (λ c. search needs)
+    (λ c. search needs)
+    returns-3)
