@@ -1,12 +1,12 @@
 -- The decimal digits of a number.
--- last-digit       a digit as io writes it
--- digits-decimal   the fewest digits that hold a number of 64 bits are its decimal digits
--- length-in, length-decimal   they are at most as many as are asked for; at most 20
--- decimal-enough   in any so many that are enough, the digits are the same
--- length-digits    the last k digits are k
--- decimal-digits   they are the number's last digits, as many as there are
--- length-split     with j digits taken off, there are j fewer
--- length-one, length-between, length-full   how many there are below ten; between two powers of ten; of those asked for, all
+-- decimal-enough              in any so many that are enough, they are the same
+-- last-digit, length-digits   a digit as io writes it; the last k digits are k
+-- decimal-digits              the decimal digits are the last digits, as many as there are
+-- length-in, length-decimal   there are no more than asked for; of a number of 64 bits at most 20
+-- length-split                with j of them taken off, there are j fewer
+-- length-one, length-between  how many there are below ten; between two powers of ten
+-- length-full                 from such a power on, where no more are asked for
+-- digits-decimal              the fewest digits that hold a number of 64 bits are its decimal digits
 use Prim.Native.Nat.{ℕ, zero, suc, _+_, _-_, _*_, _/_, _%_, _^_, _<_, _≤_}
 use mathlib.Core.Path.{_≡_, refl, ap, _∙_}
 use mathlib.Core.Bool.{cond}
@@ -20,56 +20,6 @@ use Rattle.io.specs.Digits.{digits, glyph, Fewest}
 use Rattle.logic.specs.Cases.{cases}
 use Rattle.printing.specs.Digits.{decimalIn, decimal}
 
-pub last-digit : (n : ℕ) → glyph (n % 10) ≡ 48 + n % 10
-last-digit n = rw (lt-ltb (n % 10) 10 (omega arith))
-
--- with a digit taken off, the fewest are one less
-fewest-less : (n r : ℕ) → Fewest 10 1 n (suc (suc r)) → Fewest 10 1 (n / 10) (suc r)
-fewest-less n r f =
-    let up = pow-succ' 10 (suc r) in
-    let down = pow-succ' 10 r in
-    let one : suc (suc r) - 1 ≡ suc r = omega arith in
-    let zero : suc r - 1 ≡ r = omega arith in
-    let least = rw one at (f .2 (omega arith)) in
-    (omega arith, omega arith, λ _. rw zero (omega arith))
-
-in-room : (k r n : ℕ) → r ≤ k → Fewest 10 1 n r → digits 10 r n ≡ decimalIn k n
-unfolding decimalIn
-in-room k zero n h f = absurd (omega arith)
-in-room zero (suc r) n h f = absurd (omega arith)
-in-room (suc k) (suc zero) n h f =
-    let small : n < 10 = omega arith in
-    rw (lt-ltb n 10 small) (ap (λ (d : ℕ). d ∷ []) (last-digit n ∙ rw (mod-eq-of-lt small)))
-in-room (suc k) (suc (suc r)) n h f =
-    let one = one-le-pow r 10 (omega arith) in
-    let up = pow-succ' 10 r in
-    let less : suc (suc r) - 1 ≡ suc r = omega arith in
-    let least = rw less at (f .2 (omega arith)) in
-    rw (le-ltb n 10 (omega arith), last-digit n, in-room k (suc r) (n / 10) (omega arith) (fewest-less n r f))
-
-at-most : (r n : ℕ) → n < 2 ^ 64 → Fewest 10 1 n r → r ≤ 20
-at-most r n small f = cases (ltb 20 r) (λ e. more (ltb-true 20 r e)) (λ e. ltb-false 20 r e)
-  where
-    more : 20 < r → r ≤ 20
-    more h =
-        let least = f .2 (omega arith) in
-        let past : 20 ≤ r - 1 = omega arith in
-        let tens : 10 ^ 20 ≤ 10 ^ (r - 1) = pow-le-pow-right (omega arith) past in
-        omega arith
-
-pub digits-decimal : (r n : ℕ) → n < 2 ^ 64 → Fewest 10 1 n r → digits 10 r n ≡ decimal n
-unfolding decimal
-digits-decimal r n small f = in-room 20 r n (at-most r n small f) f
-
-pub length-in : (k n : ℕ) → length (decimalIn k n) ≤ k
-unfolding decimalIn
-length-in zero n = omega arith
-length-in (suc k) n = cases (ltb n 10) (λ e. rw e (omega arith)) (λ e. rw e (simp length-append (omega (arith, length-in k (n / 10)))))
-
-pub length-decimal : (n : ℕ) → length (decimal n) ≤ 20
-unfolding decimal
-length-decimal n = length-in 20 n
-
 pub decimal-enough : (j k n : ℕ) → n < 10 ^ suc j → n < 10 ^ suc k → decimalIn (suc j) n ≡ decimalIn (suc k) n
 unfolding decimalIn
 decimal-enough zero zero n f g = refl
@@ -80,6 +30,9 @@ decimal-enough (suc j) (suc k) n f g =
     let over = pow-succ' 10 (suc k) in
     ap (λ (l : List ℕ). cond (ltb n 10) ((48 + n) ∷ []) (l ++ ((48 + n % 10) ∷ [])))
     (decimal-enough j k (n / 10) (omega arith) (omega arith))
+
+pub last-digit : (n : ℕ) → glyph (n % 10) ≡ 48 + n % 10
+last-digit n = rw (lt-ltb (n % 10) 10 (omega arith))
 
 pub length-digits : (k n : ℕ) → length (digits 10 k n) ≡ k
 length-digits zero n = refl
@@ -103,11 +56,18 @@ pub decimal-digits : (n : ℕ) → digits 10 (length (decimal n)) n ≡ decimal 
 unfolding decimal
 decimal-digits n = digits-in 20 n
 
+pub length-in : (k n : ℕ) → length (decimalIn k n) ≤ k
+unfolding decimalIn
+length-in zero n = omega arith
+length-in (suc k) n = cases (ltb n 10) (λ e. rw e (omega arith)) (λ e. rw e (simp length-append (omega (arith, length-in k (n / 10)))))
+
+pub length-decimal : (n : ℕ) → length (decimal n) ≤ 20
+unfolding decimal
+length-decimal n = length-in 20 n
+
 pub length-split : (j k n : ℕ) → 10 ^ j ≤ n → length (decimalIn (j + k) n) ≡ j + length (decimalIn k (n / 10 ^ j))
 unfolding decimalIn
-length-split zero k n h =
-    let all : 0 + k ≡ k = omega arith in
-    rw (all, div-one n) (omega arith)
+length-split zero k n h = let all : 0 + k ≡ k = omega arith in rw (all, div-one n) (omega arith)
 length-split (suc j) k n h =
     let up = pow-succ' 10 j in
     let one = one-le-pow j 10 (omega arith) in
@@ -130,3 +90,25 @@ pub length-full : (j n : ℕ) → 10 ^ j ≤ n → suc j ≡ length (decimalIn (
 unfolding decimalIn
 length-full j n least =
     rw (length-split j 1 n least) (cases (ltb (n / 10 ^ j) 10) (λ e. rw e (omega arith)) (λ e. rw e (omega arith)))
+
+at-most : (r n : ℕ) → n < 2 ^ 64 → Fewest 10 1 n r → r ≤ 20
+at-most r n small f = cases (ltb 20 r) (λ e. more (ltb-true 20 r e)) (λ e. ltb-false 20 r e)
+  where
+    more : 20 < r → r ≤ 20
+    more h =
+        let least = f .2 (omega arith) in
+        let past : 20 ≤ r - 1 = omega arith in
+        let tens : 10 ^ 20 ≤ 10 ^ (r - 1) = pow-le-pow-right (omega arith) past in
+        omega arith
+
+fewest-length : (r n : ℕ) → r ≤ 20 → Fewest 10 1 n r → r ≡ length (decimal n)
+unfolding decimal
+fewest-length zero n h f = absurd (omega arith)
+fewest-length (suc zero) n h f = length-one 19 n (f .1)
+fewest-length (suc (suc j)) n h f =
+    let less : suc (suc j) - 1 ≡ suc j = omega arith in
+    let all : suc j + suc (18 - j) ≡ 20 = omega arith in
+    rw all at (length-between (suc j) (18 - j) n (rw less at (f .2 (omega arith))) (f .1))
+
+pub digits-decimal : (r n : ℕ) → n < 2 ^ 64 → Fewest 10 1 n r → digits 10 r n ≡ decimal n
+digits-decimal r n small f = ap (λ (k : ℕ). digits 10 k n) (fewest-length r n (at-most r n small f) f) ∙ decimal-digits n

@@ -4,7 +4,7 @@
 -- then-after, then-placed      the same of a list and a place that the first text left
 -- fitting-all                  a text that has room is put whole
 -- put-none                     no text changes no cell
--- put-before                   a text after whose place its last byte stands already is put with that byte
+-- put-before                   a byte set, and then the text before it put, are both put in one
 use Prim.Native.Nat.{ℕ, zero, suc, _+_, _-_, _≤_, _<_}
 use mathlib.Core.Path.{_≡_, refl, sym, ap, _∙_}
 use mathlib.Core.List.{List, [], _∷_, _++_, append-nil, append-assoc}

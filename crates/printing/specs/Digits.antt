@@ -1,5 +1,6 @@
 -- Numbers as text, in ASCII.
 -- decimalIn, decimal   the decimal digits of a number, in at most so many; a number of 64 bits has at most 20
+--                      (any so many that hold it give the same: proofs/Decimal.antt, decimal-enough)
 -- hexDigit, hexDigits   the last hex digit of a number, in upper case; the two of a byte
 -- signedDigits   a minus sign where a number is negative, and the decimal digits of its size
 -- refusalDigits   a refusal's number and place, a space between them

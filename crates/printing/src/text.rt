@@ -4,6 +4,8 @@ ghost use mathlib.Core.Path.{_≡_};
 ghost use mathlib.Core.List.{_++_};
 ghost use Rattle.printing.specs.Digits.{decimal, hexDigit, hexDigits, signedDigits};
 ghost use Rattle.printing.specs.Placing.{textPlaced, afterText};
+use crate::digits::digits_of;
+use crate::digits::put_last;
 
 // internal: a text, as much of it as has room.
 pub fn put(out: &mut [u8], at: usize, text: &[u8]) -> usize
@@ -38,11 +40,11 @@ pub fn put_number(out: &mut [u8], at: usize, n: u64) -> usize
     if out.len() <= at {
         return at;
     }
-    let k = crate::digits::digits_of(n);
+    let k = digits_of(n);
     if out.len() - at < k {
         return put_fitting(out, at, n);
     }
-    crate::digits::put_last(out, at, k, n);
+    put_last(out, at, k, n);
     at + k
 }
 

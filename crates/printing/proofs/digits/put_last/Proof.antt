@@ -1,7 +1,7 @@
--- `put_last` meets its contract. The invariant: with the digits that are left put before them, the cells are as they
--- are with all.
-use Prim.Native.Nat.{ℕ, suc, _+_, _-_, _%_, _/_, _≤_}
-use mathlib.Core.Path.{_≡_, refl, ap, _∙_}
+-- `put_last` meets its contract. The invariant: the cells, with the digits that are left put there, are the
+-- cells at entry with all digits put there.
+use Prim.Native.Nat.{suc, _+_, _-_, _%_, _/_, _≤_}
+use mathlib.Core.Path.{_≡_, refl, _∙_}
 use mathlib.Core.List.{[], _∷_, _++_}
 use native.Mathlib.Omega.{arith}
 use denote.Ref.{now}

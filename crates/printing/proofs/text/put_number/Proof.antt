@@ -1,13 +1,8 @@
 -- `put_number` meets its contract: a full list stays as it is, and digits that all have room are put whole.
-use Prim.Native.Nat.{ℕ, _+_}
-use mathlib.Core.Path.{_≡_, sym, ap, _∙_}
-use mathlib.Core.List.{List}
+use mathlib.Core.Path.{_≡_}
 use native.Mathlib.Omega.{arith}
 use borrow.Author.Needs.{needs}
 use denote.Ref.{now}
-use lib.ListN.{length}
-use Rattle.io.specs.Digits.{digits}
-use Rattle.fields.specs.Parts as parts
 use Rattle.printing.specs.Digits.{decimal}
 use Rattle.printing.specs.Placing.{fitting}
 use Rattle.printing.proofs.Decimal.{decimal-digits}
