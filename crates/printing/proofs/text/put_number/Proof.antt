@@ -1,8 +1,11 @@
 -- `put_number` meets its contract: a full list stays as it is, and digits that all have room are put whole.
-use mathlib.Core.Path.{_≡_}
+use Prim.Native.Nat.{ℕ}
+use mathlib.Core.Path.{_≡_, ap, _∙_}
 use native.Mathlib.Omega.{arith}
 use borrow.Author.Needs.{needs}
 use denote.Ref.{now}
+use Rattle.io.specs.Digits.{digits}
+use Rattle.fields.specs.Parts.{put}
 use Rattle.printing.specs.Digits.{decimal}
 use Rattle.printing.specs.Placing.{fitting}
 use Rattle.printing.proofs.Decimal.{decimal-digits}
@@ -22,8 +25,8 @@ returns-3 c =
     let count = c .before .before .before .before .before .digits-of .ensures in
     let all : fitting (now (a .out)) (a .at) (decimal (a .n)) ≡ decimal (a .n) =
     fitting-all (now (a .out)) (a .at) (decimal (a .n)) (omega arith) in
-    let made = rw (count, decimal-digits (a .n)) at (c .before .before .put-last .ensures) in
-    (rw (all, count), rw all made)
+    let whole = ap (λ (k : ℕ). digits 10 k (a .n)) count ∙ decimal-digits (a .n) in
+    (rw (all, count), rw all (c .before .before .put-last .ensures ∙ ap (put (now (a .out)) (a .at)) whole))
 
 pub put-number-spec : {M : Type 1} → statement M
 put-number-spec =
