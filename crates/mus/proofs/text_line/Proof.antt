@@ -15,7 +15,9 @@ returns c = c .part .ensures ∙ ap (λ (o : Outcome Song). lineIn (c .before .b
 
 returns-2 : tie.Need-returns-2
 unfolding textLine
-returns-2 c = c .part2 .ensures ∙ ap (partOf (c .before .before .before .before .before .before .before .args .file .now)) (c .before .line-span .ensures) ∙ ap (λ (o : Outcome Song). lineIn (c .before .before .before .before .before .before .before .args .file .now) o (c .before .before .before .before .before .before .before .args .number)) (ap outcomeOfSong (sym (c .before .before .before .answer .given .1)) ∙ c .before .before .before .before .before .accept .ensures)
+returns-2 c =
+    let start = c .before .before .before .before .before .before .before in
+    c .span-part .ensures ∙ ap (partOf (start .args .file .now)) (c .before .line-span .ensures) ∙ ap (λ (o : Outcome Song). lineIn (start .args .file .now) o (start .args .number)) (ap outcomeOfSong (sym (c .before .before .before .answer .given .1)) ∙ c .before .before .before .before .before .accept .ensures)
 
 pub text-line-spec : {M : Type 1} → statement M
 text-line-spec =
