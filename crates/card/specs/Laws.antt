@@ -20,7 +20,7 @@ use Rattle.sidheader.specs.Fields.{psid, rsid, fieldsOf}
 use Rattle.sidrefusals.specs.PayloadTests.{sidTests}
 use Rattle.sid.specs.declared.Header.{Header}
 use Rattle.sid.specs.Answers.{sidOutcome}
-use Rattle.sid.specs.Laws.{accepted-none}
+use Rattle.sid.specs.Acceptance.{accepted-none}
 use Rattle.container.specs.declared.Voices.{Voices}
 use Rattle.container.specs.Head.{headOf, badLength, headOutcome}
 use Rattle.container.specs.Layout.{containerTests}

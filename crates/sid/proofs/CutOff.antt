@@ -24,7 +24,7 @@ use Rattle.sidheader.specs.Payload.{addressed, afterAddress, payloadOf}
 use Rattle.sidrefusals.specs.HeaderTests.{one, two, headerTests}
 use Rattle.sidrefusals.specs.PayloadTests.{payloadTests}
 use Rattle.sid.specs.Answers.{sidOutcome}
-use Rattle.sid.specs.Laws.{header}
+use Rattle.sid.specs.Acceptance.{header}
 use Rattle.sid.proofs.Outcomes.{first-parts}
 
 -- the fields with another size

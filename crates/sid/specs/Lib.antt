@@ -1,3 +1,4 @@
 pub mod Header
 pub mod Answers
+pub mod Acceptance
 pub mod Laws

@@ -19,7 +19,8 @@ use Rattle.sidrefusals.specs.PayloadTests.{sidTests}
 use Rattle.sid.specs.declared.Header.{Header}
 use Rattle.sid.specs.Header.{headerOf, spanAt}
 use Rattle.sid.specs.Answers.{sidOutcome}
-use Rattle.sid.specs.Laws.{header, accepted-none, accepted-header, accepted-fits}
+use Rattle.sid.specs.Acceptance.{header, accepted-none, accepted-header}
+use Rattle.sid.specs.Laws.{accepted-fits}
 use Rattle.sidcalls.specs.Bounds.{NarrowSpan, Narrow}
 
 -- 4 lets pass only $76 and $7C

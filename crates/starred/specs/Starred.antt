@@ -45,7 +45,7 @@ use Rattle.sidrefusals.specs.Pages.{anyPage, badPages}
 use Rattle.sidrefusals.specs.PayloadTests.{barredInit, sidTests}
 use Rattle.sid.specs.Header.{headerOf}
 use Rattle.sid.specs.Answers.{sidOutcome}
-use Rattle.sid.specs.Laws.{header}
+use Rattle.sid.specs.Acceptance.{header}
 
 pub data Sum : Type 0 where
   means : ℕ → ℕ → Outcome Meaning → Sum

@@ -25,7 +25,8 @@ use Rattle.sidparts.specs.declared.Piece.the-variants.{Title, Author, Released,
 use Rattle.sid.specs.Header.{textAt, headerOf}
 use Rattle.sid.specs.Answers.{sidOutcome}
 use Rattle.sidparts.specs.Pieces.{spanOf, pieceIn}
-use Rattle.sid.specs.Laws.{accepted-header, text-part, payload-whole}
+use Rattle.sid.specs.Acceptance.{accepted-header}
+use Rattle.sid.specs.Laws.{text-part, payload-whole}
 use Rattle.tune.specs.Tune.{tuneOf, placeIn}
 
 pub place-span : (s : RefT (List ℕ)) (h : Header) (p : Piece) → placeIn (tuneOf s h) p ≡ spanOf h p
