@@ -46,9 +46,9 @@ pub fn tune(file: &[u8], h: Header) {
     let format = h.kind;
     kind(format);
     write(b"accepted: ");
-    quote(sidparts::part(file, h.title));
+    quote(fields::span_part(file, h.title));
     write(b" by ");
-    quote(sidparts::part(file, h.author));
+    quote(fields::span_part(file, h.author));
     write(b", ");
     songs(h.songs);
     write(b", loads to ");

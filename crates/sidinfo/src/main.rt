@@ -7,7 +7,7 @@ use refusals::Refusal;
 use sid::Header;
 use sid::Kind;
 use sid::Reading;
-use sidparts::Piece;
+use tune::Piece;
 
 // A line of words and a number.
 fn line(words: &[u8], n: u64) {

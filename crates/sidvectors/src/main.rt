@@ -9,8 +9,8 @@ use refusals::Refusal;
 use sid::Header;
 use sid::Kind;
 use sid::Reading;
-use sidparts::Piece;
 use sidspeed::SongSpeed;
+use tune::Piece;
 
 // What a cell of memory holds before a load; no payload has this byte.
 const EMPTY: u8 = 0xA5;
@@ -161,21 +161,21 @@ fn show_pieces(title: &[u8], author: &[u8], released: &[u8], payload: &[u8]) {
     write(b"\n");
 }
 
-// A line with the parts of a file.
-fn piece_line(name: &[u8], file: &[u8]) {
+// A line with the parts of a file, by the spans of its header.
+fn piece_line(name: &[u8], file: &[u8], h: Header) {
     write(name);
     write(b" pieces");
     show_pieces(
-        sidparts::title(file),
-        sidparts::author(file),
-        sidparts::released(file),
-        sidparts::payload(file),
+        fields::span_part(file, h.title),
+        fields::span_part(file, h.author),
+        fields::span_part(file, h.released),
+        fields::span_part(file, h.payload),
     );
 }
 
 // A line with the parts of a tune, of a file's first n bytes and the header of the whole.
 fn tune_line(name: &[u8], file: &[u8], h: Header, n: usize) {
-    let cut = sidparts::part(file, Span { from: 0, len: n });
+    let cut = fields::part(file, 0, n);
     let title = tune::shown(cut, h, Piece::Title);
     let author = tune::shown(cut, h, Piece::Author);
     let released = tune::shown(cut, h, Piece::Released);
@@ -185,8 +185,10 @@ fn tune_line(name: &[u8], file: &[u8], h: Header, n: usize) {
     show_pieces(title, author, released, payload);
 }
 
-// The tune of a file, whole and cut within the payload, the author and the title, and before them.
+// The parts of a file by its header, then those of its tune, whole and cut within the payload, the author and
+// the title, and before them.
 fn show_tunes(name: &[u8], file: &[u8], h: Header) {
+    piece_line(name, file, h);
     tune_line(name, file, h, file.len());
     tune_line(name, file, h, 128);
     tune_line(name, file, h, 60);
@@ -194,7 +196,7 @@ fn show_tunes(name: &[u8], file: &[u8], h: Header) {
     tune_line(name, file, h, 22);
 }
 
-// The lines that only the first two files have: loads into memories of other sizes, and the parts.
+// The lines that only the first two files have: loads into memories of other sizes.
 fn report_more(name: &[u8], file: &[u8]) {
     let mut none = [EMPTY; 0];
     let mut less = [EMPTY; 65535];
@@ -202,7 +204,6 @@ fn report_more(name: &[u8], file: &[u8]) {
     load_line(name, file, &mut none);
     load_line(name, file, &mut less);
     load_line(name, file, &mut more);
-    piece_line(name, file);
 }
 
 // A file's answers. Songs are asked for where there are several, and of a file of the first two that is

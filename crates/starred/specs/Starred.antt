@@ -1,8 +1,8 @@
 -- Document 01, 'Sums on the bench': every starred sum is right. One table under one statement.
--- Sum                     a pair and what it means; or a note's first byte alone, its length and tie, whatever
---                         the second byte; or a note's second byte alone, its pitch and half-step, whatever
---                         the first; or an RSID file's effective init, by its init field and load address,
---                         and the verdict of tests 1 to 13
+-- Sum                     a pair and what it means; or a note's first byte alone, its length and tie,
+--                         whatever the second byte; or a note's second byte alone, its pitch and half-step,
+--                         whatever the first; or an RSID file's effective init, by its init field and load
+--                         address, and the verdict of tests 1 to 13
 -- pitch, note             a pitch and a note of these parts
 -- word                    a number as two bytes, high byte first
 -- rsidFile                an RSID file of 130 bytes, BASIC clear, by its init field and load address

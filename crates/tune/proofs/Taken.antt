@@ -1,5 +1,5 @@
--- A tune is taken apart, and `sidparts::part` is called on its file and on one of its places: the walk that
--- `title`, `author`, `released` and `payload` share, over the part's name. Adapted from the toolchain's
+-- A tune is taken apart, and `fields::span_part` is called on its file and on one of its places: the walk
+-- that `title`, `author`, `released` and `payload` share, over the part's name. Adapted from the toolchain's
 -- example `reader`, the proof of `next`. Here the place is a struct of its own, the result a slice, and the
 -- field that is copied is given by the part's name. The struct is Copy: what it owns is had three times. One
 -- copy is kept whole for the exit; of the others what the file owns and what the place owns go to the callee,
@@ -49,14 +49,14 @@ use denote.Exit.{yes}
 use denote.Triple.Clauses.{Clauses, Lasts, AtExit, atExit, ensured, closing}
 use denote.Triple.Weaken.{walk-weaken}
 use Rattle.fields.specs.Parts.{partOf}
-use Rattle.sidparts.specs.declared.Piece.{Piece}
-use Rattle.sidparts.specs.declared.Piece.the-variants.{Title, Author, Released, Payload}
+use Rattle.tune.specs.declared.Piece.{Piece}
+use Rattle.tune.specs.declared.Piece.the-variants.{Title, Author, Released, Payload}
 use Rattle.fields.proofs.Span as Sp
 use Rattle.fields.proofs.Span.Laws as Sp′
-use Rattle.sidparts.proofs.part as part
-use Rattle.sidparts.proofs.part.Symbol as part-def
-use Rattle.sidparts.proofs.part.Symbol.{name as #sidparts·part}
-use Rattle.sidparts.proofs.part.Met as part-thm
+use Rattle.fields.proofs.span_part as part
+use Rattle.fields.proofs.span_part.Symbol as part-def
+use Rattle.fields.proofs.span_part.Symbol.{name as #fields·span-part}
+use Rattle.fields.proofs.span_part.Met as part-thm
 use Rattle.tune.specs.Tune.{placeIn}
 use Rattle.tune.specs.declared.Tune.{Tune}
 use Rattle.tune.proofs.Tune as T
@@ -84,7 +84,7 @@ taking p =
       body =
           seq (assign (place 2 []) (rvOpd (copy (place 1 (field 0 ∷ [])))))
           (seq (assign (place 3 []) (rvOpd (copy (place 1 (field (index p) ∷ [])))))
-          (seq (call #sidparts·part (copy (place 2 []) ∷ copy (place 3 []) ∷ []) (place 0 [])) return));
+          (seq (call #fields·span-part (copy (place 2 []) ∷ copy (place 3 []) ∷ []) (place 0 [])) return));
     }
 
 -- where that field lies in the struct
@@ -213,7 +213,7 @@ module _ {M : Type 1} (𝓤 : URA M) (H : Heap 𝓤) (A : Atoms 𝓤) (W : Given
       suffices ! _ (ends-at 𝓤 H A title.ended stayed (promised 𝓤 H A mem run p) W (((κ, tt), (q, tt), tt, (t, tt), (mach ∷ [], tt)), tt) u r (tt, tt) (tt, tt)) $ says ! e $
       move ! (1 ∷ []) $ frame ! $ nothing ! $ move ! (2 ∷ 0 ∷ []) $ fjoin ! $ frame ! $ done !
 
-  module _ (C : Calls 𝓤 H) (Λ : Loops 𝓤 H) (fm : FmC 𝓤 H (W .laws) C) (known : Triple 𝓤 (C #sidparts·part) (Part 𝓤 H A mem run)) where
+  module _ (C : Calls 𝓤 H) (Λ : Loops 𝓤 H) (fm : FmC 𝓤 H (W .laws) C) (known : Triple 𝓤 (C #fields·span-part) (Part 𝓤 H A mem run)) where
     walk : Holds (hasTy (T′.mir (named 0)) mach) × WT mach → ent 𝓤 (onEntry 𝓤 H A title.signature (κ, tt) (q, tt) (t, tt) (mach ∷ [], tt)) (WpFn 𝓤 H C Λ (taking p) (mach ∷ []) Post)
     walk wt =
         qed W (raw (onEntry 𝓤 H A title.signature (κ, tt) (q, tt) (t, tt) (mach ∷ [], tt)) ∷ []) ∵ enter ! C Λ (taking p) (mach ∷ []) _ $
@@ -231,16 +231,16 @@ module _ {M : Type 1} (𝓤 : URA M) (H : Heap 𝓤) (A : Atoms 𝓤) (W : Given
         move ! (9 ∷ 10 ∷ []) $ free1 ! $ move ! (7 ∷ 8 ∷ []) $ free1 ! $ move ! (5 ∷ 6 ∷ []) $ free1 ! $ move ! (3 ∷ 4 ∷ []) $ free1 ! $ free0 ! $ by ! (exits r u e)))))))))
 
 module _ {M : Type 1} (𝓤 : URA M) (H : Heap 𝓤) (A : Atoms 𝓤) (W : Given 𝓤 H A) (mem : Memory → SProp 𝓤) (run : Routine → Fun 𝓤) (p : Piece) where
-  walks : (C : Calls 𝓤 H) (Λ : Loops 𝓤 H) → FmC 𝓤 H (W .laws) C → Triple 𝓤 (C #sidparts·part) (Part 𝓤 H A mem run)
+  walks : (C : Calls 𝓤 H) (Λ : Loops 𝓤 H) → FmC 𝓤 H (W .laws) C → Triple 𝓤 (C #fields·span-part) (Part 𝓤 H A mem run)
       → Walks 𝓤 H A title.ended stayed (WpFn 𝓤 H C Λ (taking p)) (promised 𝓤 H A mem run p)
   walks C Λ fm known = walked 𝓤 H A title.ended stayed (promised 𝓤 H A mem run p) (WpFn 𝓤 H C Λ (taking p)) (λ κs. (LL.vals (T.the-type (namedLft 1 0 tt κs)) (T′.the-laws (namedLft 1 0 tt κs)), tt)) (λ κs. (LL.tells (T.the-type (namedLft 1 0 tt κs)) (T′.the-laws (namedLft 1 0 tt κs)), tt))
       (λ κs qs bounds a g are. via 𝓤 _ (fst∗ 𝓤 _ (emp 𝓤)) (walk 𝓤 H A W mem run (κs .0) (qs .0) (a .0) p C Λ fm known (LL.lawful (T.the-type (namedLft 1 0 tt κs)) (T′.the-laws (namedLft 1 0 tt κs)) 𝓤 H A W .typed (a .0) _ (are .0) .0)))
 
--- the theorem of such a function: its key runs as the code above, in tables in which `sidparts::part` is
+-- the theorem of such a function: its key runs as the code above, in tables in which `fields::span_part` is
 -- itself, and what its contract ensures follows from what the walk shows
 pub taken : {M : Type 1} (𝓤 : URA M) (H : Heap 𝓤) (𝓜 : Model 𝓤 H) (𝓖 : GhostRules 𝓤 H) (𝓡 : Running 𝓤 H 𝓜) (p : Piece) (E : Ensures 𝓤 H (𝓖 .A) (𝓜 .mem) (𝓡 .run))
     → ((κs : Lfts 1) (a : Args title.signature κs) (g : Unit {0}) (r : RefT (List ℕ)) (ws : Lasts title.ended κs a) → ent 𝓤 (fact 𝓤 (now r ≡ partOf (now (a .0 .file)) (placeIn (a .0) p))) (E κs a g r (atExit title.ended κs a ws)))
-    → (γ : Env) (k : Name) → Closed 𝓤 H (tables 𝓤 H 𝓜 𝓡 γ .C) (tables 𝓤 H 𝓜 𝓡 γ .Λ) k (taking p) → γ #sidparts·part ≡ part-def.routine
+    → (γ : Env) (k : Name) → Closed 𝓤 H (tables 𝓤 H 𝓜 𝓡 γ .C) (tables 𝓤 H 𝓜 𝓡 γ .Λ) k (taking p) → γ #fields·span-part ≡ part-def.routine
     → Triple 𝓤 (tables 𝓤 H 𝓜 𝓡 γ .C k) (tripleOf 𝓤 H (𝓖 .A) title.signature (closing 𝓤 H (𝓖 .A) title.ended (ensuring 𝓤 H (𝓖 .A) (𝓜 .mem) (𝓡 .run) E)))
 unfolding tablesOf
 taken 𝓤 H 𝓜 𝓖 𝓡 p E follows γ k unfolded calls =
@@ -250,4 +250,4 @@ taken 𝓤 H 𝓜 𝓖 𝓡 p E follows γ k unfolded calls =
     proved 𝓤 H 𝓜 𝓖 𝓡 title.ended stayed (goes-none 𝓤 H A W 1 TuneRow yes (λ κs x f. refl), tt) (ensuring 𝓤 H A (𝓜 .mem) (𝓡 .run) E) γ k (taking p) unfolded (λ fm.
     walk-weaken 𝓤 H A title.ended stayed W (promised 𝓤 H A (𝓜 .mem) (𝓡 .run) p) E (λ κs a g r ws _. follows κs a g r ws)
     (WpFn 𝓤 H (𝓣 .C) (𝓣 .Λ) (taking p)) (WpFn-mono 𝓤 H (W .laws) (tablesOf 𝓤 H 𝓜 𝓣) (taking p))
-    (walks 𝓤 H A W (𝓜 .mem) (𝓡 .run) p (𝓣 .C) (𝓣 .Λ) fm (cited 𝓤 H (Part 𝓤 H A (𝓜 .mem) (𝓡 .run)) 𝓜 𝓡 γ #sidparts·part part-def.routine calls (part-thm.met 𝓤 H 𝓜 𝓖 𝓡))))
+    (walks 𝓤 H A W (𝓜 .mem) (𝓡 .run) p (𝓣 .C) (𝓣 .Λ) fm (cited 𝓤 H (Part 𝓤 H A (𝓜 .mem) (𝓡 .run)) 𝓜 𝓡 γ #fields·span-part part-def.routine calls (part-thm.met 𝓤 H 𝓜 𝓖 𝓡))))

@@ -1,5 +1,6 @@
 -- Document 01, 'PSID and RSID': 'An accepted file is shown as one thing whose title, author, released text
 -- and payload are each a part of the lent bytes'.
+-- spanOf    where the header says that a part lies, by the part's name
 -- tuneOf    that one thing, of a file and its accepted header
 -- placeIn   where a part lies in it, by the part's name
 use Prim.Native.Nat.{ℕ}
@@ -7,9 +8,15 @@ use mathlib.Core.List.{List}
 use denote.Ref.{RefT}
 use Rattle.fields.specs.declared.Span.{Span}
 use Rattle.sid.specs.declared.Header.{Header}
-use Rattle.sidparts.specs.declared.Piece.{Piece}
-use Rattle.sidparts.specs.declared.Piece.the-variants.{Title, Author, Released, Payload}
+use Rattle.tune.specs.declared.Piece.{Piece}
+use Rattle.tune.specs.declared.Piece.the-variants.{Title, Author, Released, Payload}
 use Rattle.tune.specs.declared.Tune.{Tune}
+
+abbrev pub spanOf : Header → Piece → Span
+spanOf h Title = h .title
+spanOf h Author = h .author
+spanOf h Released = h .released
+spanOf h Payload = h .payload
 
 abbrev pub tuneOf : RefT (List ℕ) → Header → Tune
 tuneOf file h =

@@ -1,14 +1,20 @@
 // A PSID or RSID file as one thing: the lent file with where its title, author, released text and payload lie
 // in it. The struct holds a reference, so the functions over it are few and thin: each takes it apart and
-// leaves the work to `sidparts`.
+// leaves the work to `fields::span_part`.
 // `shown` has plain parameters: who calls it meets no such struct.
 ghost use mathlib.Core.Path.{_≡_};
 ghost use Rattle.fields.specs.Parts.{partOf};
-ghost use Rattle.sidparts.specs.Pieces.{spanOf};
-ghost use Rattle.tune.specs.Tune.{tuneOf};
+ghost use Rattle.tune.specs.Tune.{spanOf, tuneOf};
 use fields::Span;
 use sid::Header;
-use sidparts::Piece;
+
+// The parts of a file that are shown, by name.
+pub enum Piece {
+    Title,
+    Author,
+    Released,
+    Payload,
+}
 
 // The file as it was lent, and where its parts lie. It may be made by hand: a part has of its place the bytes
 // in the file.
@@ -37,28 +43,28 @@ pub fn of<'a>(file: &'a [u8], h: Header) -> Tune<'a>
 pub fn title<'a>(t: Tune<'a>) -> &'a [u8]
     ensures { λ r. ⌜ now r ≡ partOf (now (t .entry .file)) (t .entry .title) ⌝ }
 {
-    sidparts::part(t.file, t.title)
+    fields::span_part(t.file, t.title)
 }
 
 // The author's name, a part of the lent file.
 pub fn author<'a>(t: Tune<'a>) -> &'a [u8]
     ensures { λ r. ⌜ now r ≡ partOf (now (t .entry .file)) (t .entry .author) ⌝ }
 {
-    sidparts::part(t.file, t.author)
+    fields::span_part(t.file, t.author)
 }
 
 // The released text, a part of the lent file.
 pub fn released<'a>(t: Tune<'a>) -> &'a [u8]
     ensures { λ r. ⌜ now r ≡ partOf (now (t .entry .file)) (t .entry .released) ⌝ }
 {
-    sidparts::part(t.file, t.released)
+    fields::span_part(t.file, t.released)
 }
 
 // The payload without its two address bytes, a part of the lent file.
 pub fn payload<'a>(t: Tune<'a>) -> &'a [u8]
     ensures { λ r. ⌜ now r ≡ partOf (now (t .entry .file)) (t .entry .payload) ⌝ }
 {
-    sidparts::part(t.file, t.payload)
+    fields::span_part(t.file, t.payload)
 }
 
 // A part by its name, of a file and its accepted header.

@@ -45,15 +45,14 @@ use denote.Triple.Walked.{says, Stays, stay-none, stay-none-slice, walkOf, goes-
 use denote.Exit.{yes}
 use denote.Triple.Clauses.{ensured}
 use Rattle.fields.specs.Parts.{partOf}
-use Rattle.sidparts.specs.Pieces.{spanOf}
 use Rattle.sid.specs.declared.Header.{Header}
-use Rattle.sidparts.specs.declared.Piece.{Piece}
-use Rattle.sidparts.specs.declared.Piece.the-variants.{Title, Author, Released, Payload}
+use Rattle.tune.specs.declared.Piece.{Piece}
+use Rattle.tune.specs.declared.Piece.the-variants.{Title, Author, Released, Payload}
 use Rattle.sid.proofs.Header as Hd
 use Rattle.sid.proofs.Header.Laws as Hd′
-use Rattle.sidparts.proofs.Piece as Pc
-use Rattle.sidparts.proofs.Piece.Laws as Pc′
-use Rattle.tune.specs.Tune.{tuneOf, placeIn}
+use Rattle.tune.proofs.Piece as Pc
+use Rattle.tune.proofs.Piece.Laws as Pc′
+use Rattle.tune.specs.Tune.{spanOf, tuneOf, placeIn}
 use Rattle.tune.specs.Laws.{place-span}
 use Rattle.tune.specs.declared.Tune.{Tune}
 use Rattle.tune.proofs.Tune as T
