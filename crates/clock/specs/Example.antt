@@ -8,7 +8,6 @@
 --              pitch; TEM 0, a whole note; HLT
 -- each-lasts   what they last: 96 × 120; 384 × 3, 256 × 3, 384 × 5; 384 × 7 and its halves; 3/2, 2/3 and 7/4
 --              of 96 × 7; 4 × 7, 6 × 7; 0; 384 × 256
--- summed       and the exact time of the event after them all
 use Prim.Native.Nat.{ℕ}
 use mathlib.Core.Path.{_≡_, refl}
 use mathlib.Core.List.{List, [], _∷_, _++_}
@@ -16,7 +15,7 @@ use Rattle.meaning.specs.declared.Meaning.{Meaning}
 use Rattle.refusals.specs.Numbers.{Outcome}
 use Rattle.pair.specs.Pairs.{meaningOf}
 use Rattle.clock.specs.Lengths.{atStart, lengthOf, valuesAfter}
-use Rattle.clock.specs.Times.{lengths, sum, timeOf, jiffyOf}
+use Rattle.clock.specs.Times.{lengths}
 
 abbrev means : List ℕ → List (Outcome Meaning)
 means [] = []
@@ -35,6 +34,7 @@ values = 0x06 ∷ 0x07 ∷ 0x08 ∷ 0x94 ∷ 0x0C ∷ 0x94 ∷ 0x10 ∷ 0x94 ∷
 abbrev shapes : List ℕ
 shapes = 0x30 ∷ 0x94 ∷ 0x90 ∷ 0x94 ∷ 0xB0 ∷ 0x94 ∷ 0xA0 ∷ 0x94 ∷ 0x80 ∷ 0x94 ∷ 0x40 ∷ 0x94 ∷ 0x00 ∷ 0x94 ∷ 0x06 ∷ 0x00 ∷ 0x08 ∷ 0x00 ∷ 0x01 ∷ 0x4F ∷ []
 
+-- Each of these pairs lasts as long as we work out by hand.
 pub each-lasts : lengths atStart (means (before ++ utility ++ values ++ shapes))
     ≡ 0 ∷ 0 ∷ 11520 ∷ []
     ++ 0 ∷ 1152 ∷ 768 ∷ 0 ∷ 1920 ∷ 1920 ∷ 1152 ∷ []
@@ -42,7 +42,3 @@ pub each-lasts : lengths atStart (means (before ++ utility ++ values ++ shapes))
     ++ 1008 ∷ 448 ∷ 1176 ∷ 28 ∷ 28 ∷ 42 ∷ 0 ∷ 0 ∷ 98304 ∷ 0 ∷ []
 unfolding lengths lengthOf valuesAfter
 each-lasts = refl
-
-pub summed : (timeOf (means (before ++ utility ++ values ++ shapes)) 27 ≡ 124800) × (jiffyOf (means (before ++ utility ++ values ++ shapes)) 27 ≡ 325)
-unfolding timeOf jiffyOf sum lengths lengthOf valuesAfter
-summed = (refl, refl)

@@ -1,5 +1,4 @@
 -- Laws that show the lengths and times to be those of document 01, 'Playing a voice'.
--- each-half                 each value from a half note on is half of the one before
 -- dotted-exact, triplet-exact, double-dotted-exact   the shapes drop no fraction, but of a double dotted 64th
 -- numerator, denominator    the fraction of a shape
 -- partsOfWhole, wholeOf     what part a value is, and of which length
@@ -30,16 +29,6 @@ use Rattle.pair.specs.Pairs.{meaningOf}
 use Rattle.clock.specs.declared.Values.{Values}
 use Rattle.clock.specs.Lengths.{atStart, plainLength, shaped, noteLength, lengthOf, valuesAfter}
 use Rattle.clock.specs.Times.{lengths, sum, timeOf, jiffyOf}
-
--- 'with tempo t a whole note is 384t, each next value half of that'
-pub each-half : (q : Values)
-    → (2 * plainLength q Half ≡ plainLength q Whole)
-    × (2 * plainLength q Quarter ≡ plainLength q Half)
-    × (2 * plainLength q Eighth ≡ plainLength q Quarter)
-    × (2 * plainLength q Sixteenth ≡ plainLength q Eighth)
-    × (2 * plainLength q ThirtySecond ≡ plainLength q Sixteenth)
-    × (2 * plainLength q SixtyFourth ≡ plainLength q ThirtySecond)
-each-half q = (omega arith, omega arith, omega arith, omega arith, omega arith, omega arith)
 
 twelves : (q : Values) (d : Duration) → ((k : ℕ) × (plainLength q d ≡ 12 * k)) ⊎ (d ≡ SixtyFourth)
 twelves q Whole = inl (32 * q .tempo, omega arith)
@@ -135,8 +124,8 @@ never-dotted a h e = go (Reading.lengthInByte a .shape) (rw e at (every-at readS
     go DoubleDotted t = absurd t
     go Triplet t = inr refl
 
--- 'Time is in 384ths of a jiffy': whole ones, since each length is the fraction that the paper names of the
--- length that it names
+-- 'Time is in 384ths of a jiffy: with tempo t a whole note is 384t, each next value half of that': whole
+-- ones, since each length is the fraction that the paper names of the length that it names
 pub exact : (q : Values) (a b : ℕ) → a < 256
     → (denominator (noteOf a b .shape) * noteLength q (noteOf a b) ≡ numerator (noteOf a b .shape) * plainLength q (noteOf a b .duration))
     × (partsOfWhole (noteOf a b .duration) * plainLength q (noteOf a b .duration) ≡ wholeOf q (noteOf a b .duration))
