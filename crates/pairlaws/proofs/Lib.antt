@@ -5,4 +5,3 @@ pub mod SignedBack
 pub mod Written
 pub mod Read
 pub mod Laws
-pub mod Rows
