@@ -1,8 +1,8 @@
--- Each meaning that some pair has, has a code of 32 bits, and the code's meaning is that one.
+-- Each meaning that is written has a code of 32 bits, and the code decodes to that meaning.
 -- unsigned-code, negative-code   the code of a command's number and value, taken apart
 -- room    whether a code's digits have room for a command's number and its values
 -- count-coded, fixed-coded, signed-coded, note-coded   a command of any value, of few, with a sign; a note
--- coded   so for every meaning that some pair has
+-- coded   so for every meaning that is written
 use Prim.Native.Nat.{ℕ, _+_, _*_, _-_, _/_, _%_, _≤_, _<_}
 use mathlib.Core.Path.{_≡_, refl, _∙_, ap}
 use mathlib.Core.Bool.{Bool, true, false, _&&_}
@@ -27,10 +27,12 @@ use Rattle.meaning.specs.declared.Note.{Note}
 use Rattle.meaning.specs.declared.Bump.the-variants.{Up, Down}
 use Rattle.meaning.specs.declared.Meaning.{Meaning}
 use Rattle.meaning.specs.declared.Meaning.the-variants as M
+use Rattle.meaning.specs.Answers.{Bytes}
+use Rattle.pair.specs.Pairs.{spellingOf}
 use Rattle.codes.specs.Coding.{count, signed, durationDigits, shapeDigit, tieDigit, letterDigit, accidentalDigit, toneDigits, noteCode, codeOf}
 use Rattle.decoding.specs.Tables.{lookup, durations, shapes, ties, letters, accidentals, above, below, unsignedCommands, negativeCommands}
 use Rattle.decoding.specs.Decoding.{toneAt, commandAt, decoded}
-use Rattle.codelaws.specs.Statements.{Written, Coded}
+use Rattle.codelaws.specs.Statements.{Coded}
 use Rattle.codelaws.proofs.Decoding.{up, down}
 use Rattle.codelaws.proofs.Sizes.{counted-small, phrase-small, destination-small, alone-small, joined-small}
 use Rattle.codelaws.proofs.Sizes.{tempo-small, SmallValue, byte-small, jif-small, dtn-small, tps-small, rtp-small}
@@ -164,11 +166,11 @@ note-coded n small =
     let tone : k % 0x1000 ≡ toneDigits (n .tone) = omega arith in
     record { low = omega arith; back = rw (note, duration, d .0, shape, s .0, tie, t .0, tone, o .0) }
 
-pub coded : (m : Meaning) → Written m → Coded m
-coded (M.Note n) w = note-coded n (tone-small n (w .bytes))
-coded (M.Dcy v) w = count-coded 0x300 v (counted-small v 15 0x00 16 (w .bytes)) refl refl refl
-coded (M.Rup v) w = count-coded 0x301 v (counted-small v 31 0x01 8 (w .bytes)) refl refl refl
-coded (M.Cal v) w = count-coded 0x302 v (phrase-small v 0x02 0x8B (w .bytes)) refl refl refl
+pub coded : (m : Meaning) {y : Bytes} → spellingOf m ≡ accepted y → Coded m
+coded (M.Note n) w = note-coded n (tone-small n w)
+coded (M.Dcy v) w = count-coded 0x300 v (counted-small v 15 0x00 16 w) refl refl refl
+coded (M.Rup v) w = count-coded 0x301 v (counted-small v 31 0x01 8 w) refl refl refl
+coded (M.Cal v) w = count-coded 0x302 v (phrase-small v 0x02 0x8B w) refl refl refl
 coded (M.Bmp Up) w = fixed-coded 0x303 0 refl refl refl
 coded (M.Bmp Down) w = fixed-coded 0x303 1 refl refl refl
 coded (M.Flt false) w = fixed-coded 0x313 0 refl refl refl
@@ -179,47 +181,47 @@ coded (M.Snc false) w = fixed-coded 0x333 0 refl refl refl
 coded (M.Snc true) w = fixed-coded 0x333 1 refl refl refl
 coded (M.Fx false) w = fixed-coded 0x343 0 refl refl refl
 coded (M.Fx true) w = fixed-coded 0x343 1 refl refl refl
-coded (M.Def v) w = count-coded 0x306 v (phrase-small v 0x06 0x83 (w .bytes)) refl refl refl
-coded (M.Atk v) w = count-coded 0x304 v (counted-small v 15 0x04 8 (w .bytes)) refl refl refl
-coded (M.Sus v) w = count-coded 0x384 v (counted-small v 15 0x84 8 (w .bytes)) refl refl refl
-coded (M.Lfo v) w = count-coded 0x363 v (counted-small v 1 0x63 8 (w .bytes)) refl refl refl
+coded (M.Def v) w = count-coded 0x306 v (phrase-small v 0x06 0x83 w) refl refl refl
+coded (M.Atk v) w = count-coded 0x304 v (counted-small v 15 0x04 8 w) refl refl refl
+coded (M.Sus v) w = count-coded 0x384 v (counted-small v 15 0x84 8 w) refl refl refl
+coded (M.Lfo v) w = count-coded 0x363 v (counted-small v 1 0x63 8 w) refl refl refl
 coded (M.Pv false) w = fixed-coded 0x373 0 refl refl refl
 coded (M.Pv true) w = fixed-coded 0x373 1 refl refl refl
-coded (M.Rdn v) w = count-coded 0x305 v (counted-small v 31 0x05 8 (w .bytes)) refl refl refl
-coded (M.Wav v) w = count-coded 0x307 v (counted-small v 7 0x07 32 (w .bytes)) refl refl refl
-coded (M.Fm v) w = count-coded 0x317 v (counted-small v 7 0x17 32 (w .bytes)) refl refl refl
-coded (M.Rls v) w = count-coded 0x308 v (counted-small v 15 0x08 16 (w .bytes)) refl refl refl
-coded (M.Res v) w = count-coded 0x30A v (counted-small v 15 0x0A 16 (w .bytes)) refl refl refl
+coded (M.Rdn v) w = count-coded 0x305 v (counted-small v 31 0x05 8 w) refl refl refl
+coded (M.Wav v) w = count-coded 0x307 v (counted-small v 7 0x07 32 w) refl refl refl
+coded (M.Fm v) w = count-coded 0x317 v (counted-small v 7 0x17 32 w) refl refl refl
+coded (M.Rls v) w = count-coded 0x308 v (counted-small v 15 0x08 16 w) refl refl refl
+coded (M.Res v) w = count-coded 0x30A v (counted-small v 15 0x0A 16 w) refl refl refl
 coded (M.ThreeOff false) w = fixed-coded 0x35B 0 refl refl refl
 coded (M.ThreeOff true) w = fixed-coded 0x35B 1 refl refl refl
-coded (M.Vol v) w = count-coded 0x30E v (counted-small v 15 0x0E 16 (w .bytes)) refl refl refl
+coded (M.Vol v) w = count-coded 0x30E v (counted-small v 15 0x0E 16 w) refl refl refl
 coded M.Tal w = fixed-coded 0x30F 0 refl refl refl
 coded M.End w = fixed-coded 0x32F 0 refl refl refl
 coded M.Hlt w = fixed-coded 0x34F 0 refl refl refl
-coded (M.Src v) w = count-coded 0x31F v (counted-small v 2 0x1F 32 (w .bytes)) refl refl refl
-coded (M.Dst v) w = count-coded 0x38F v (destination-small v (w .bytes)) refl refl refl
-coded (M.Pw v) w = count-coded 0x202 v (joined-small v 4095 0x02 16 (w .bytes)) refl refl refl
-coded (M.Tem v) w = count-coded 0x206 v (tempo-small v (w .bytes)) refl refl refl
-coded (M.Utl v) w = count-coded 0x216 v (alone-small v 0x16 255 (w .bytes)) refl refl refl
-coded (M.Pnt v) w = count-coded 0x226 v (alone-small v 0x26 255 (w .bytes)) refl refl refl
-coded (M.Hed v) w = count-coded 0x236 v (alone-small v 0x36 255 (w .bytes)) refl refl refl
-coded (M.Flg v) w = count-coded 0x246 v (alone-small v 0x46 255 (w .bytes)) refl refl refl
-coded (M.Ps z) w = signed-coded M.Ps 0x256 z (byte-small 0x56 z 128 127 (lit≤ tt) (lit≤ tt) (w .bytes)) refl (λ y. refl) (λ v. refl) (λ v. refl)
-coded (M.Fs z) w = signed-coded M.Fs 0x266 z (byte-small 0x66 z 128 127 (lit≤ tt) (lit≤ tt) (w .bytes)) refl (λ y. refl) (λ v. refl) (λ v. refl)
-coded (M.Sca z) w = signed-coded M.Sca 0x26E z (byte-small 0x6E z 7 7 (lit≤ tt) (lit≤ tt) (w .bytes)) refl (λ y. refl) (λ v. refl) (λ v. refl)
-coded (M.Vdp v) w = count-coded 0x276 v (alone-small v 0x76 127 (w .bytes)) refl refl refl
-coded (M.Vrt v) w = count-coded 0x286 v (alone-small v 0x86 255 (w .bytes)) refl refl refl
-coded (M.Aut z) w = signed-coded M.Aut 0x296 z (byte-small 0x96 z 128 127 (lit≤ tt) (lit≤ tt) (w .bytes)) refl (λ y. refl) (λ v. refl) (λ v. refl)
-coded (M.Tps z) w = signed-coded M.Tps 0x2A6 z (tps-small z (w .bytes)) refl (λ y. refl) (λ v. refl) (λ v. refl)
-coded (M.Aux v) w = count-coded 0x2B6 v (alone-small v 0xB6 255 (w .bytes)) refl refl refl
-coded (M.Pvd v) w = count-coded 0x2C6 v (alone-small v 0xC6 127 (w .bytes)) refl refl refl
-coded (M.Pvr v) w = count-coded 0x2D6 v (alone-small v 0xD6 127 (w .bytes)) refl refl refl
-coded (M.Max v) w = count-coded 0x2E6 v (alone-small v 0xE6 255 (w .bytes)) refl refl refl
-coded (M.Utv v) w = count-coded 0x2F6 v (alone-small v 0xF6 255 (w .bytes)) refl refl refl
-coded (M.Fc v) w = count-coded 0x20E v (alone-small v 0x0E 255 (w .bytes)) refl refl refl
-coded (M.Rtp z) w = signed-coded M.Rtp 0x22E z (rtp-small z (w .bytes)) refl (λ y. refl) (λ v. refl) (λ v. refl)
-coded (M.Hld v) w = count-coded 0x24E v (alone-small v 0x4E 255 (w .bytes)) refl refl refl
-coded (M.Ms v) w = count-coded 0x21E v (joined-small v 1023 0x1E 64 (w .bytes)) refl refl refl
-coded (M.Jif z) w = signed-coded M.Jif 0x23E z (jif-small z (w .bytes)) refl (λ y. refl) (λ v. refl) (λ v. refl)
-coded (M.Dtn z) w = signed-coded M.Dtn 0x20A z (dtn-small z (w .bytes)) refl (λ y. refl) (λ v. refl) (λ v. refl)
-coded (M.Por v) w = count-coded 0x203 v (joined-small v 16383 0x03 4 (w .bytes)) refl refl refl
+coded (M.Src v) w = count-coded 0x31F v (counted-small v 2 0x1F 32 w) refl refl refl
+coded (M.Dst v) w = count-coded 0x38F v (destination-small v w) refl refl refl
+coded (M.Pw v) w = count-coded 0x202 v (joined-small v 4095 0x02 16 w) refl refl refl
+coded (M.Tem v) w = count-coded 0x206 v (tempo-small v w) refl refl refl
+coded (M.Utl v) w = count-coded 0x216 v (alone-small v 0x16 255 w) refl refl refl
+coded (M.Pnt v) w = count-coded 0x226 v (alone-small v 0x26 255 w) refl refl refl
+coded (M.Hed v) w = count-coded 0x236 v (alone-small v 0x36 255 w) refl refl refl
+coded (M.Flg v) w = count-coded 0x246 v (alone-small v 0x46 255 w) refl refl refl
+coded (M.Ps z) w = signed-coded M.Ps 0x256 z (byte-small 0x56 z 128 127 (lit≤ tt) (lit≤ tt) w) refl (λ y. refl) (λ v. refl) (λ v. refl)
+coded (M.Fs z) w = signed-coded M.Fs 0x266 z (byte-small 0x66 z 128 127 (lit≤ tt) (lit≤ tt) w) refl (λ y. refl) (λ v. refl) (λ v. refl)
+coded (M.Sca z) w = signed-coded M.Sca 0x26E z (byte-small 0x6E z 7 7 (lit≤ tt) (lit≤ tt) w) refl (λ y. refl) (λ v. refl) (λ v. refl)
+coded (M.Vdp v) w = count-coded 0x276 v (alone-small v 0x76 127 w) refl refl refl
+coded (M.Vrt v) w = count-coded 0x286 v (alone-small v 0x86 255 w) refl refl refl
+coded (M.Aut z) w = signed-coded M.Aut 0x296 z (byte-small 0x96 z 128 127 (lit≤ tt) (lit≤ tt) w) refl (λ y. refl) (λ v. refl) (λ v. refl)
+coded (M.Tps z) w = signed-coded M.Tps 0x2A6 z (tps-small z w) refl (λ y. refl) (λ v. refl) (λ v. refl)
+coded (M.Aux v) w = count-coded 0x2B6 v (alone-small v 0xB6 255 w) refl refl refl
+coded (M.Pvd v) w = count-coded 0x2C6 v (alone-small v 0xC6 127 w) refl refl refl
+coded (M.Pvr v) w = count-coded 0x2D6 v (alone-small v 0xD6 127 w) refl refl refl
+coded (M.Max v) w = count-coded 0x2E6 v (alone-small v 0xE6 255 w) refl refl refl
+coded (M.Utv v) w = count-coded 0x2F6 v (alone-small v 0xF6 255 w) refl refl refl
+coded (M.Fc v) w = count-coded 0x20E v (alone-small v 0x0E 255 w) refl refl refl
+coded (M.Rtp z) w = signed-coded M.Rtp 0x22E z (rtp-small z w) refl (λ y. refl) (λ v. refl) (λ v. refl)
+coded (M.Hld v) w = count-coded 0x24E v (alone-small v 0x4E 255 w) refl refl refl
+coded (M.Ms v) w = count-coded 0x21E v (joined-small v 1023 0x1E 64 w) refl refl refl
+coded (M.Jif z) w = signed-coded M.Jif 0x23E z (jif-small z w) refl (λ y. refl) (λ v. refl) (λ v. refl)
+coded (M.Dtn z) w = signed-coded M.Dtn 0x20A z (dtn-small z w) refl (λ y. refl) (λ v. refl) (λ v. refl)
+coded (M.Por v) w = count-coded 0x203 v (joined-small v 16383 0x03 4 w) refl refl refl

@@ -1,57 +1,28 @@
--- The code of a meaning: coding and decoding are inverse. Each meaning that some pair has has a code,
--- and a number that is no code is refused.
--- written-coded          each meaning that some pair has, has a code of 32 bits that decodes to it
--- coded-once             no two of them share a code
--- decoded-coded          a number that decodes has the meaning's code
--- decoded-once           no two numbers decode to one meaning
--- read-coded             what two bytes mean has such a code
--- undecoded, unwritten   a number that does not decode is refused with 43, a meaning that is not written too
-use Prim.Native.Nat.{ℕ, _<_}
+-- The laws of codes, from those that are shown case by case.
+-- coding-and-decoding   all of them
 use mathlib.Core.Path.{_≡_, sym, _∙_, ap, subst}
 use Rattle.refusals.specs.Numbers.{Outcome}
-use Rattle.refusals.specs.Numbers.Outcome.{accepted, refused}
+use Rattle.refusals.specs.Numbers.Outcome.{accepted}
 use Rattle.meaning.specs.declared.Meaning.{Meaning}
-use Rattle.meaning.specs.Answers.{Bytes}
-use Rattle.pair.specs.Pairs.{meaningOf, spellingOf}
-use Rattle.pairlaws.specs.Statements.{ReadsBack}
-use Rattle.pairlaws.proofs.Written.{reads-back}
-use Rattle.pair.specs.Preferred.{preferred}
-use Rattle.pairlaws.proofs.Laws.{read-written}
-use Rattle.codes.specs.Coding.{codeOf}
+use Rattle.pairlaws.specs.Statements.{HasPair}
+use Rattle.pairlaws.proofs.Laws.{reading-and-writing}
 use Rattle.decoding.specs.Decoding.{decoded}
-use Rattle.codelaws.specs.Statements.{WithoutPair, Written, Coded}
+use Rattle.codelaws.specs.Statements.{Coded, CodingAndDecoding}
+use Rattle.codelaws.proofs.Refused.{PairRefused, pair-refused}
 use Rattle.codelaws.proofs.Decoding.{Decodes, decodes}
 use Rattle.codelaws.proofs.Coding.{coded}
 
-pub written-coded : (m : Meaning) → Written m → Coded m
-written-coded m w = coded m w
+written-coded : (m : Meaning) → HasPair m → Coded m
+written-coded m h = coded m (reading-and-writing .read-written m (h .first) (h .second) (h .means))
 
-pub coded-once : (m k : Meaning) → Written m → Written k → codeOf m ≡ codeOf k → m ≡ k
-coded-once m k wm wk e = same (sym (coded m wm .back) ∙ ap decoded e ∙ coded k wk .back)
-  where
-    same : _≡_ {A = Outcome Meaning} (accepted m) (accepted k) → m ≡ k
-    same q = cc
+same-meaning : (m k : Meaning) → _≡_ {A = Outcome Meaning} (accepted m) (accepted k) → m ≡ k
+same-meaning m k e = cc
 
-pub decoded-coded : (n : ℕ) (m : Meaning) → decoded n ≡ accepted m → codeOf m ≡ n
-decoded-coded n m e = subst (Decodes n) e (decodes n)
-
-pub decoded-once : (n k : ℕ) (m : Meaning) → decoded n ≡ accepted m → decoded k ≡ accepted m → n ≡ k
-decoded-once n k m en ek = sym (decoded-coded n m en) ∙ decoded-coded k m ek
-
-pub read-coded : (a b : ℕ) (m : Meaning) → meaningOf a b ≡ accepted m → a < 256 → b < 256 → Coded m
-read-coded a b m e ha hb =
-    coded m record { first = preferred a b .first; second = preferred a b .second; bytes = read-written m a b (e, ha, hb) }
-
-pub undecoded : (n : ℕ) → WithoutPair (decoded n)
-undecoded n = go (decoded n) (decodes n)
-  where
-    go : (o : Outcome Meaning) → Decodes n o → WithoutPair o
-    go (accepted m) r = tt
-    go (refused number place) r = r
-
-pub unwritten : (m : Meaning) → WithoutPair (spellingOf m)
-unwritten m = go (spellingOf m) (reads-back m)
-  where
-    go : (o : Outcome Bytes) → ReadsBack m o → WithoutPair o
-    go (accepted bytes) r = tt
-    go (refused number place) r = r
+pub coding-and-decoding : CodingAndDecoding
+coding-and-decoding = record {
+  written-coded = written-coded;
+  coded-once = λ m k hm hk e. same-meaning m k (sym (written-coded m hm .back) ∙ ap decoded e ∙ written-coded k hk .back);
+  decoded-coded = λ n m e. subst (Decodes n) e (decodes n);
+  undecoded = λ n number place e. subst (Decodes n) e (decodes n);
+  pair-refused = λ a b number place e. subst PairRefused e (pair-refused a b);
+}

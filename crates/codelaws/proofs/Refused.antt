@@ -1,14 +1,15 @@
 -- What is refused of two bytes is 27 or 28, at place 0.
+-- PairRefused    so for one outcome
 -- pair-refused   so for every two bytes
 use Prim.Native.Nat.{ℕ, _+_, _*_, _/_, _%_}
-use mathlib.Core.Path.{refl}
-use mathlib.Core.Logic.{inl, inr}
+use mathlib.Core.Path.{_≡_, refl}
+use mathlib.Core.Logic.{_⊎_, inl, inr}
 use mathlib.Core.Bool.{Bool, true, false, _&&_, cond}
 use lib.Dec.{eqb, leb, ltb}
 use lib.IntN.{pos, negsuc, subℕ}
 use lib.Signed.{leZ}
 use Rattle.refusals.specs.Numbers.{Outcome}
-use Rattle.refusals.specs.Numbers.Outcome.{accepted}
+use Rattle.refusals.specs.Numbers.Outcome.{accepted, refused}
 use Rattle.meaning.specs.declared.Meaning.{Meaning}
 use Rattle.meaning.specs.declared.Meaning.the-variants as M
 use Rattle.note.specs.Reading.{noteOf}
@@ -20,8 +21,11 @@ use Rattle.commandsigns.specs.Signs.{outOfRange, signedByte, scaOutcome, tpsOut
 use Rattle.command.specs.Others.{upTo127, pulseRows, singleRows, joinedRows, rowFound, unassigned, joinedOutcome, otherOutcome}
 use Rattle.command.specs.RowLaws.{Each, found-holds}
 use Rattle.pair.specs.Pairs.{meaningOf}
-use Rattle.codelaws.specs.Statements.{PairRefused}
 use Rattle.codelaws.proofs.Facts.{_and_}
+
+abbrev pub PairRefused : Outcome Meaning → Type 0
+PairRefused (accepted m) = Unit
+PairRefused (refused number place) = ((number ≡ 27) ⊎ (number ≡ 28)) × (place ≡ 0)
 
 -- 28, place 0
 range : PairRefused outOfRange

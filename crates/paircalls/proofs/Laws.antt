@@ -1,7 +1,9 @@
--- Each call of a pair tells a value from a refusal (`Apart`).
--- pair-read-apart, pair-write-apart   so for tt_pair_read and tt_pair_write
-use Prim.Native.Nat.{ℕ, _<_}
-use mathlib.Core.Path.{_≡_, refl}
+-- The laws of the two calls of a pair, from those of pairs and of codes.
+-- PairOf, Answered, answered   what is written for a number: a pair of its meaning, or 43 at place 0
+-- code-written                 the code of a pair's meaning is written as the pair that document 01 names
+-- pair-answers                 all the laws
+use Prim.Native.Nat.{ℕ, _*_, _/_, _%_, _<_}
+use mathlib.Core.Path.{_≡_, refl, sym, _∙_, ap, subst}
 use mathlib.Core.Logic.{⊎-elim}
 use native.Mathlib.Omega.{arith}
 use Rattle.refusals.specs.Numbers.{Outcome}
@@ -10,31 +12,106 @@ use Rattle.refusals.specs.Tests.{andThen}
 use Rattle.meaning.specs.declared.Meaning.{Meaning}
 use Rattle.meaning.specs.Answers.{Bytes}
 use Rattle.pair.specs.Pairs.{meaningOf, spellingOf}
-use Rattle.pairlaws.specs.Statements.{ReadsBack}
-use Rattle.pairlaws.proofs.Written.{reads-back}
+use Rattle.pair.specs.Preferred.{preferred}
+use Rattle.pairlaws.specs.Statements.{Means}
+use Rattle.pairlaws.proofs.Laws.{reading-and-writing}
 use Rattle.codes.specs.Coding.{codeOf}
 use Rattle.decoding.specs.Decoding.{decoded}
-use Rattle.codelaws.specs.Statements.{PairRefused, WithoutPair}
-use Rattle.codelaws.proofs.Refused.{pair-refused}
-use Rattle.codelaws.proofs.Laws.{read-coded, undecoded}
-use Rattle.answers.specs.Apart.{Apart}
+use Rattle.codelaws.proofs.Laws.{coding-and-decoding}
+use Rattle.answers.specs.Answers.{packed}
+use Rattle.answers.specs.Apart.{Apart, upperHalf, zero-valued}
 use Rattle.paircalls.specs.Written.{bytesNumber, written}
+use Rattle.paircalls.specs.Statements.{readAnswer, writeAnswer, CodeOfPair, PairAnswers}
 
-pub pair-read-apart : (a b : ℕ) → a < 256 → b < 256 → Apart codeOf (meaningOf a b)
-pair-read-apart a b ha hb = go (meaningOf a b) refl (pair-refused a b)
-  where
-    go : (o : Outcome Meaning) → meaningOf a b ≡ o → PairRefused o → Apart codeOf o
-    go (accepted m) e r = read-coded a b m e ha hb .low
-    go (refused number place) e r = (⊎-elim (λ x. omega arith) (λ x. omega arith) (r .0), omega arith)
+record PairOf (n : ℕ) (y : Bytes) : Type 0 where
+  meaning : Meaning
+  means : Means meaning (y .first) (y .second)
+  code : codeOf meaning ≡ n
 
-pub pair-write-apart : (code : ℕ) → Apart bytesNumber (written code)
+abbrev Answered : ℕ → Outcome Bytes → Type 0
+Answered n (accepted y) = PairOf n y
+Answered n (refused number place) = (number ≡ 43) × (place ≡ 0)
+
+answered : (n : ℕ) → Answered n (written n)
 unfolding written
-pair-write-apart code = go (decoded code) (undecoded code)
+answered n = go (decoded n) refl
   where
-    spelled : (m : Meaning) (o : Outcome Bytes) → ReadsBack m o → Apart bytesNumber o
-    spelled m (accepted bytes) r = omega arith
-    spelled m (refused number place) r = (omega arith, omega arith)
+    spelled : (m : Meaning) → codeOf m ≡ n → (o : Outcome Bytes) → spellingOf m ≡ o → Answered n o
+    spelled m code (accepted y) e =
+        record { meaning = m; means = reading-and-writing .written-reads m (y .first) (y .second) e; code = code }
+    spelled m code (refused number place) e = reading-and-writing .unwritten m number place e
 
-    go : (o : Outcome Meaning) → WithoutPair o → Apart bytesNumber (andThen o (λ m. spellingOf m))
-    go (accepted m) r = spelled m (spellingOf m) (reads-back m)
-    go (refused number place) r = (omega arith, omega arith)
+    go : (o : Outcome Meaning) → decoded n ≡ o → Answered n (andThen o (λ m. spellingOf m))
+    go (accepted m) e = spelled m (coding-and-decoding .decoded-coded n m e) (spellingOf m) refl
+    go (refused number place) e = coding-and-decoding .undecoded n number place e
+
+code-written : (m : Meaning) (a b : ℕ) → Means m a b → written (codeOf m) ≡ accepted (preferred a b)
+unfolding written
+code-written m a b means =
+    let coded = coding-and-decoding .written-coded m record { first = a; second = b; means = means } in
+    ap (λ (o : Outcome Meaning). andThen o (λ k. spellingOf k)) (coded .back) ∙ reading-and-writing .read-written m a b means
+
+write-apart : (n : ℕ) → Apart bytesNumber (written n)
+write-apart n = go (written n) (answered n)
+  where
+    go : (o : Outcome Bytes) → Answered n o → Apart bytesNumber o
+    go (accepted y) p = let low = p .means in omega arith
+    go (refused number place) is = (omega arith, omega arith)
+
+unpaired-refused : (n : ℕ) → (CodeOfPair n → ⊥) → writeAnswer n ≡ 43 * 0x100000000
+unpaired-refused n none = go (written n) (answered n)
+  where
+    go : (o : Outcome Bytes) → Answered n o → packed bytesNumber o ≡ 43 * 0x100000000
+    go (accepted y) p =
+        absurd (none record { meaning = p .meaning; pair = record { first = y .first; second = y .second; means = p .means }; code = p .code })
+    go (refused number place) is = omega arith
+
+refused-unpaired : (n : ℕ) → writeAnswer n ≡ 43 * 0x100000000 → CodeOfPair n → ⊥
+refused-unpaired n e c =
+    let h = c .pair in
+    let low = reading-and-writing .preferred-means (c .meaning) (h .first) (h .second) (h .means) in
+    let is : writeAnswer n ≡ bytesNumber (preferred (h .first) (h .second)) =
+    ap writeAnswer (sym (c .code)) ∙ ap (packed bytesNumber) (code-written (c .meaning) (h .first) (h .second) (h .means)) in
+    omega (arith, is, low .1, low .2)
+
+write-read : (n : ℕ) → upperHalf (writeAnswer n) ≡ 0 → readAnswer (writeAnswer n / 256) (writeAnswer n % 256) ≡ n
+write-read n e =
+    let v = zero-valued bytesNumber (written n) (write-apart n) e in
+    let p = subst (Answered n) (v .is) (answered n) in
+    let is : writeAnswer n ≡ bytesNumber (v .value) = ap (packed bytesNumber) (v .is) in
+    let first : writeAnswer n / 256 ≡ v .value .first = omega (arith, is, p .means .2) in
+    let second : writeAnswer n % 256 ≡ v .value .second = omega (arith, is, p .means .2) in
+    rw (first, second) (ap (packed codeOf) (p .means .0) ∙ p .code)
+
+module _ (a b : ℕ) (ha : a < 256) (hb : b < 256) where
+  read-apart : Apart codeOf (meaningOf a b)
+  read-apart = go (meaningOf a b) refl
+    where
+      go : (o : Outcome Meaning) → meaningOf a b ≡ o → Apart codeOf o
+      go (accepted m) e = coding-and-decoding .written-coded m (record { first = a; second = b; means = (e, ha, hb) }) .low
+      go (refused number place) e =
+          let r = coding-and-decoding .pair-refused a b number place e in
+          (⊎-elim (λ x. omega arith) (λ x. omega arith) (r .0), omega arith)
+
+  module _ (e : upperHalf (readAnswer a b) ≡ 0) where
+    read-write : writeAnswer (readAnswer a b) ≡ bytesNumber (preferred a b)
+    read-write =
+        let v = zero-valued codeOf (meaningOf a b) read-apart e in
+        ap (λ (o : Outcome Meaning). writeAnswer (packed codeOf o)) (v .is)
+        ∙ ap (packed bytesNumber) (code-written (v .value) a b (v .is, ha, hb))
+
+    read-again : readAnswer (preferred a b .first) (preferred a b .second) ≡ readAnswer a b
+    read-again =
+        let v = zero-valued codeOf (meaningOf a b) read-apart e in
+        ap (packed codeOf) (reading-and-writing .preferred-means (v .value) a b (v .is, ha, hb) .0 ∙ sym (v .is))
+
+pub pair-answers : PairAnswers
+pair-answers = record {
+  read-apart = read-apart;
+  write-apart = write-apart;
+  unpaired-refused = unpaired-refused;
+  refused-unpaired = refused-unpaired;
+  read-write = read-write;
+  read-again = read-again;
+  write-read = write-read;
+}

@@ -1,6 +1,6 @@
 -- docs/INTERFACE.md, 'The code of a meaning': a code written as the two bytes of a pair.
 -- bytesNumber   two bytes as one number: first × 256 + second
--- written       a code's two bytes; 'every other number is a meaning without a pair (43)'
+-- written       a code's two bytes; 'For every other number `tt_pair_write` answers 43'
 use Prim.Native.Nat.{ℕ, _+_, _*_}
 use Rattle.refusals.specs.Numbers.{Outcome}
 use Rattle.refusals.specs.Tests.{andThen}

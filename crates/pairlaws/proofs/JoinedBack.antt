@@ -14,8 +14,7 @@ use Rattle.commandsigns.specs.Signs.{detuningOf, jifOutcome}
 use Rattle.command.proofs.Firsts.{joined-as}
 use Rattle.spelling.specs.Signs.{jif, dtn}
 use Rattle.pair.specs.Pairs.{meaningOf}
-use Rattle.pairlaws.specs.Statements.{ReadsBack}
-use Rattle.pairlaws.proofs.ValueKinds.{picked-back, joined-means}
+use Rattle.pairlaws.proofs.ValueKinds.{ReadsBack, picked-back, joined-means}
 use Rattle.pairlaws.proofs.FirstBytes.{joined-meaning, pw-meaning}
 
 pub pw-written : (v : ℕ) → v ≤ 4095 → meaningOf (0x02 + 16 * (v / 256)) (v % 256) ≡ accepted (Pw v)

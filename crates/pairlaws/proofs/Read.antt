@@ -1,4 +1,5 @@
 -- What a pair means is written, as document 01 says that the writer does: for all 65,536 pairs.
+-- WrittenAs    so for one pair and what it means
 -- written-as   for every pair of bytes
 use Prim.Native.Nat.{ℕ, _+_, _*_, _-_, _/_, _%_, _≤_, _<_}
 use mathlib.Core.Path.{_≡_, sym, _∙_, ap, subst}
@@ -27,8 +28,11 @@ use Rattle.command.proofs.Firsts.{singles, joined-as}
 use Rattle.spelling.specs.Counts.{joined}
 use Rattle.pair.specs.Pairs.{meaningOf, spellingOf}
 use Rattle.pair.specs.Preferred.{preferred}
-use Rattle.pairlaws.specs.Statements.{WrittenAs}
 use Rattle.pairlaws.proofs.FirstBytes.{other-meaning, pw-meaning}
+
+abbrev pub WrittenAs : ℕ → ℕ → Outcome Meaning → Type 0
+WrittenAs a b (accepted m) = spellingOf m ≡ accepted (preferred a b)
+WrittenAs a b (refused number place) = Unit
 
 -- the same as a test, for the first bytes that have 256 pairs and no more
 abbrev sameBytes : Outcome Bytes → Bytes → Bool

@@ -20,7 +20,8 @@ use Rattle.commandsigns.specs.Signs.{signedByte, tpsValue, rtpValue}
 use Rattle.spelling.specs.Counts.{pair, noBytes}
 use Rattle.spelling.specs.Signs.{tps, rtp}
 use Rattle.pair.specs.Pairs.{meaningOf}
-use Rattle.pairlaws.specs.Statements.{Means, ReadsBack}
+use Rattle.pairlaws.specs.Statements.{Means}
+use Rattle.pairlaws.proofs.ValueKinds.{ReadsBack}
 
 pub byte-up : (n : ℕ) → n ≤ 127 → signedByte n ≡ pos n
 byte-up n h = sameℤ-equal (signedByte n) (pos n) (every-at (λ k. sameℤ (signedByte k) (pos k)) 128 tt n (omega arith))

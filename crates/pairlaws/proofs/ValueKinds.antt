@@ -1,11 +1,12 @@
 -- What is written reads back, for each kind of value: one law a kind, whatever the command.
+-- ReadsBack                   what is written reads back; what is not written is answered 43, place 0
 -- picked-back, picked-back-else   a choice of two spellings
 -- at-value                    a spelling of one value
 -- coded-means, counted-back, phrase-back   a command of the first byte 01
 -- single-back                 a value in the second byte alone
 -- joined-means, joined-back   a value that begins in the first byte
 -- signed-back                 a value with a sign
-use Prim.Native.Nat.{ℕ, _+_, _*_, _-_, _/_, _%_, _≤_, _<_}
+use Prim.Native.Nat.{ℕ, _+_, _*_, _-_, _/_, _%_, _≤_}
 use mathlib.Core.Path.{_≡_, refl, sym, _∙_, ap, subst}
 use mathlib.Core.Bool.{Bool, true, false, _&&_, cond}
 use native.Mathlib.Omega.{arith}
@@ -15,7 +16,7 @@ use lib.IntN.{ℤ, pos, negsuc}
 use Rattle.logic.specs.Cases.{cases}
 use Rattle.logic.specs.Truth.{both-left, both-right}
 use Rattle.refusals.specs.Numbers.{Outcome}
-use Rattle.refusals.specs.Numbers.Outcome.{accepted}
+use Rattle.refusals.specs.Numbers.Outcome.{accepted, refused}
 use Rattle.meaning.specs.declared.Meaning.{Meaning}
 use Rattle.meaning.specs.Answers.{Bytes}
 use Rattle.logic.specs.Every.{every, every-at, all-left, all-right}
@@ -27,13 +28,17 @@ use Rattle.spelling.specs.Counts.{pair, noBytes, counted, phrase, alone, joined
 use Rattle.spelling.specs.Signs.{spelledSigned}
 use Rattle.spelling.proofs.Steps.{stepped}
 use Rattle.pair.specs.Pairs.{meaningOf}
-use Rattle.pairlaws.specs.Statements.{Means, ReadsBack}
+use Rattle.pairlaws.specs.Statements.{Means}
+
+abbrev pub ReadsBack : Meaning → Outcome Bytes → Type 0
+ReadsBack m (accepted bytes) = Means m (bytes .first) (bytes .second)
+ReadsBack m (refused number place) = (number ≡ 43) × (place ≡ 0)
 
 pub picked-back : (m : Meaning) (t : Bool) (a b : ℕ) → (t ≡ true → Means m a b) → ReadsBack m (cond t (pair a b) noBytes)
 picked-back m true a b f = f refl
 picked-back m false a b f = (refl, refl)
 
-pub picked-back-else : (m : Meaning) (t : Bool) (a b : ℕ) (x : Outcome Bytes) → (t ≡ true → Means m a b) → ReadsBack m x → ReadsBack m (cond t (pair a b) x)
+picked-back-else : (m : Meaning) (t : Bool) (a b : ℕ) (x : Outcome Bytes) → (t ≡ true → Means m a b) → ReadsBack m x → ReadsBack m (cond t (pair a b) x)
 picked-back-else m true a b x f g = f refl
 picked-back-else m false a b x f g = g
 

@@ -1,14 +1,13 @@
 -- `paircalls::read` meets its contract: a note by the first byte, else a command.
 use Prim.Native.Nat.{ℕ, _%_}
-use mathlib.Core.Path.{_≡_, sym, ap, _∙_, subst}
+use mathlib.Core.Path.{_≡_, sym, ap, _∙_}
 use borrow.Author.Tests.{ne-eqb}
 use borrow.Author.Needs.{needs}
 use Rattle.meaning.specs.Answers.{outcomeOfMeaning}
 use Rattle.command.specs.Pair.{commandOutcome}
 use Rattle.pair.specs.Pairs.{meaningOf}
 use Rattle.codes.specs.Coding.{codeOf}
-use Rattle.codelaws.specs.Statements.{PairRefused}
-use Rattle.codelaws.proofs.Refused.{pair-refused}
+use Rattle.codelaws.proofs.Laws.{coding-and-decoding}
 use Rattle.answers.specs.Answers.{packed}
 use Rattle.answers.specs.Apart.{unplaced-fits}
 use Rattle.paircalls.proofs.read.Statement.{statement}
@@ -23,7 +22,8 @@ returns c = rw (c .before .before .if1 .taken, c .note-code .ensures, c .before 
 refused-requires : tie.Need-refused-requires
 refused-requires c κs =
     let a = c .before .before .before .before .before .args in
-    unplaced-fits (subst PairRefused (sym (command-meant (a .first) (a .second) (c .before .before .before .before .if1 .left)) ∙ sym (c .before .before .before .read-command .ensures) ∙ ap outcomeOfMeaning (c .before .x .given .1)) (pair-refused (a .first) (a .second)) .1)
+    unplaced-fits
+    (coding-and-decoding .pair-refused (a .first) (a .second) _ _ (sym (command-meant (a .first) (a .second) (c .before .before .before .before .if1 .left)) ∙ sym (c .before .before .before .read-command .ensures) ∙ ap outcomeOfMeaning (c .before .x .given .1)) .1)
 
 returns-2 : tie.Need-returns-2
 returns-2 c =

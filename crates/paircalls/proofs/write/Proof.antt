@@ -1,12 +1,12 @@
-use mathlib.Core.Path.{_≡_, sym, ap, _∙_, subst}
+use mathlib.Core.Path.{_≡_, sym, ap, _∙_}
 use borrow.Author.Needs.{needs}
 use Rattle.refusals.specs.Numbers.{Outcome}
 use Rattle.refusals.specs.Tests.{andThen}
 use Rattle.meaning.specs.declared.Meaning.{Meaning}
 use Rattle.meaning.specs.Answers.{outcomeOfMeaning, outcomeOfBytes}
 use Rattle.pair.specs.Pairs.{spellingOf}
-use Rattle.codelaws.specs.Statements.{WithoutPair}
-use Rattle.codelaws.proofs.Laws.{undecoded, unwritten}
+use Rattle.pairlaws.proofs.Laws.{reading-and-writing}
+use Rattle.codelaws.proofs.Laws.{coding-and-decoding}
 use Rattle.answers.specs.Answers.{packed}
 use Rattle.paircalls.specs.Written.{bytesNumber, written}
 use Rattle.answers.specs.Apart.{unplaced-fits}
@@ -19,11 +19,13 @@ onward e = ap (λ (o : Outcome Meaning). packed bytesNumber (andThen o (λ m. sp
 
 refused-requires : tie.Need-refused-requires
 refused-requires c κs =
-    unplaced-fits (subst WithoutPair (sym (c .before .before .before .meaning-of .ensures) ∙ ap outcomeOfMeaning (c .before .x .given .1)) (undecoded (c .before .before .before .before .args .code)) .1)
+    unplaced-fits
+    (coding-and-decoding .undecoded (c .before .before .before .before .args .code) _ _ (sym (c .before .before .before .meaning-of .ensures) ∙ ap outcomeOfMeaning (c .before .x .given .1)) .1)
 
 refused-requires-2 : tie.Need-refused-requires-2
 refused-requires-2 c κs =
-    unplaced-fits (subst WithoutPair (sym (c .before .before .before .write .ensures) ∙ ap outcomeOfBytes (c .before .x2 .given .1)) (unwritten (c .before .before .before .before .before .m .given .0 .0)) .1)
+    unplaced-fits
+    (reading-and-writing .unwritten (c .before .before .before .before .before .m .given .0 .0) _ _ (sym (c .before .before .before .write .ensures) ∙ ap outcomeOfBytes (c .before .x2 .given .1)) .1)
 
 returns : tie.Need-returns
 unfolding written
