@@ -7,7 +7,7 @@
 -- durationDigits, shapeDigit, tieDigit, letterDigit, accidentalDigit   a note's digits
 -- toneDigits     letter, accidental and octave; '0 for a rest, whose A and O are 0 too'
 -- noteCode       a note's code
--- codeOf         a meaning's code, in source 004's order
+-- codeOf         a meaning's code, in source 004's order; one-to-one for the meanings that some pair has
 use Prim.Native.Nat.{ℕ, _+_, _*_}
 use mathlib.Core.Bool.{Bool, true, false, cond}
 use lib.IntN.{ℤ}

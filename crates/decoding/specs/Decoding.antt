@@ -1,9 +1,9 @@
 -- docs/INTERFACE.md, 'The code of a meaning': the meaning that a number codes, or 43.
--- The crate codelaws proves that this is coding backwards.
+-- The crate codelaws proves that this is coding backwards, for the meanings that some pair has.
 -- toneAt      a note's three last digits
 -- noteAt      a note's eight digits
 -- commandAt   a command's number and value, in one of the tables
--- decoded     the meaning of a number
+-- decoded     the meaning of a number, which may be one that no pair has
 use Prim.Native.Nat.{ℕ, _/_, _%_}
 use mathlib.Core.List.{List}
 use mathlib.Core.Bool.{cond}
@@ -13,7 +13,7 @@ use Rattle.meaning.specs.declared.Tone.the-variants.{Rest, Sounds}
 use Rattle.meaning.specs.declared.Meaning.{Meaning}
 use Rattle.meaning.specs.declared.Meaning.the-variants.{Note}
 use Rattle.refusals.specs.Numbers.{Outcome}
-use Rattle.refusals.specs.Numbers.Outcome.{accepted, refused}
+use Rattle.refusals.specs.Numbers.Outcome.{accepted}
 use Rattle.refusals.specs.Tests.{andThen}
 use Rattle.decoding.specs.Tables.{Entry, noMeaning, lookup, durations, shapes, ties, letters, accidentals, unsignedCommands, negativeCommands}
 

@@ -1,6 +1,6 @@
 -- docs/INTERFACE.md, 'The code of a meaning', read backwards: what each digit or command's number stands for.
 -- The crate codelaws proves that the entries are those of the crate codes.
--- noMeaning          43, 'every other number is a meaning without a pair'
+-- noMeaning          43, for a number that codes no meaning
 -- Entry, entry       a number and what it stands for
 -- lookup             what a table has for a number, or 43
 -- durations, shapes, ties, letters, accidentals   a note's digits

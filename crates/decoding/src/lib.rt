@@ -16,7 +16,8 @@ fn none() -> Reading
     Reading::Refused(Refusal::unplaced(refusals::NO_PAIR))
 }
 
-// The meaning that a number codes, or 43.
+// internal: the meaning that a number codes, or 43.
+// It may be a meaning that no pair has, as P-W 65,535 for 2020FFFF; pair::write then refuses that meaning.
 pub fn meaning_of(code: u32) -> Reading
     ensures { λ r. ⌜ outcomeOfMeaning r ≡ decoded code ⌝ }
 {
