@@ -1,5 +1,5 @@
 -- Each call of a MUS file tells a value from a refusal (`Apart`).
--- accept-apart, list-apart   so for tt_mus_accept and tt_mus_list
+-- mus-answers   so for tt_mus_accept and tt_mus_list
 use Prim.Native.Nat.{ℕ, _<_}
 use mathlib.Core.Path.{_≡_, sym, _∙_, ap}
 use mathlib.Core.List.{List}
@@ -19,17 +19,15 @@ use Rattle.events.specs.Listing.{playedIn, countOf, Listing, listing}
 use Rattle.events.specs.Laws.{accepted-window}
 use Rattle.answers.specs.Apart.{Apart, low-apart}
 use Rattle.muscalls.specs.Lists.{songNumbers}
+use Rattle.muscalls.specs.Statements.{MusAnswers}
 use Rattle.muscalls.proofs.Places.{mus-low, list-low}
 
 same : {A : Type 0} {a b : A} → _≡_ {A = Outcome A} (accepted a) (accepted b) → a ≡ b
 same e = cc
 
 module _ (f : List ℕ) where
-  pub accept-apart : Apart (λ s. length (songNumbers s)) (musOutcome f)
-  accept-apart = low-apart (λ s. length (songNumbers s)) (musOutcome f) (λ s e. lit< tt) (mus-low f)
-
   -- a voice has at most 1,048,576 events
-  pub list-apart : (voice first : ℕ) (os js : List ℕ) → Apart (λ count. count) (listing f voice first os js .answer)
+  list-apart : (voice first : ℕ) (os js : List ℕ) → Apart (λ count. count) (listing f voice first os js .answer)
   unfolding playedIn eventsOf
   list-apart voice first os js = low-apart (λ count. count) (listing f voice first os js .answer) few (list-low f voice first os js)
     where
@@ -41,3 +39,9 @@ module _ (f : List ℕ) where
           let walked = ltb-false 1048576 (walkedOf (pairs (bytesOf f v))) (i .passes .limits .1 .0) in
           let is : countOf (length os) first (playedIn f v) ≡ count = same (sym (ap (λ (l : Listing). l .answer) (w .window)) ∙ e) in
           omega (arith, is, walked, events-walked (pairs (bytesOf f v)))
+
+  pub mus-answers : MusAnswers f
+  mus-answers = record {
+    accept-apart = low-apart (λ s. length (songNumbers s)) (musOutcome f) (λ s e. lit< tt) (mus-low f);
+    list-apart = list-apart;
+  }

@@ -1,5 +1,5 @@
 -- Each call of a PSID or RSID file tells a value from a refusal (`Apart`).
--- read-apart, fields-apart, load-apart, speed-apart   so for tt_sid_read, _fields, _load and _speed
+-- sid-answers   so for tt_sid_read, _fields, _load and _speed
 use Prim.Native.Nat.{ℕ, _<_}
 use mathlib.Core.Path.{_≡_}
 use mathlib.Core.Bool.{_||_}
@@ -19,19 +19,11 @@ use Rattle.sidspeed.specs.Speed.{speedBit, songSpeed, speedOutcome}
 use Rattle.answers.specs.Answers.{noValue}
 use Rattle.answers.specs.Apart.{Apart, low-apart}
 use Rattle.sidcalls.specs.Lists.{headerNumbers}
+use Rattle.sidcalls.specs.Statements.{SidAnswers}
 use Rattle.sidcalls.proofs.Places.{sid-low, load-low, speed-low}
 
 module _ (f : List ℕ) where
-  pub read-apart : Apart noValue (sidOutcome f)
-  read-apart = low-apart noValue (sidOutcome f) (λ h e. lit< tt) (sid-low f)
-
-  pub fields-apart : Apart (λ h. length (headerNumbers h)) (sidOutcome f)
-  fields-apart = low-apart (λ h. length (headerNumbers h)) (sidOutcome f) (λ h e. lit< tt) (sid-low f)
-
-  pub load-apart : (cells : ℕ) → Apart noValue (loadOutcome f cells)
-  load-apart cells = low-apart noValue (loadOutcome f cells) (λ h e. lit< tt) (load-low f cells)
-
-  pub speed-apart : (song : ℕ) → Apart (λ bit. bit) (speedOutcome f song)
+  speed-apart : (song : ℕ) → Apart (λ bit. bit) (speedOutcome f song)
   unfolding speedOutcome speedBit
   speed-apart song = low-apart (λ bit. bit) (speedOutcome f song) (λ bit e. bit-low (sidOutcome f) bit e) (speed-low f song)
     where
@@ -40,3 +32,11 @@ module _ (f : List ℕ) where
           let is : speedBit (h .speed) song ≡ bit = guarded-accepted (firstOf (test noSuchSong (eqb song 0 || ltb (h .songs) song) ∷ [])) bit (speedBit (h .speed) song) e .1 in
           omega (arith, is)
       bit-low (refused n p) bit e = absurd (two-ways e)
+
+  pub sid-answers : SidAnswers f
+  sid-answers = record {
+    read-apart = low-apart noValue (sidOutcome f) (λ h e. lit< tt) (sid-low f);
+    fields-apart = low-apart (λ h. length (headerNumbers h)) (sidOutcome f) (λ h e. lit< tt) (sid-low f);
+    load-apart = λ cells. low-apart noValue (loadOutcome f cells) (λ h e. lit< tt) (load-low f cells);
+    speed-apart = speed-apart;
+  }
