@@ -2,9 +2,9 @@
 -- PairOf, Answered, answered   what is written for a number: a pair of its meaning, or 43 at place 0
 -- code-written                 the code of a pair's meaning is written as the pair that document 01 names
 -- pair-answers                 all the laws
-use Prim.Native.Nat.{ℕ, _*_, _/_, _%_, _<_}
+use Prim.Native.Nat.{ℕ, _/_, _%_, _<_}
 use mathlib.Core.Path.{_≡_, refl, sym, _∙_, ap, subst}
-use mathlib.Core.Logic.{⊎-elim}
+use mathlib.Core.Logic.{_⊎_, inl, inr, ⊎-elim}
 use native.Mathlib.Omega.{arith}
 use Rattle.refusals.specs.Numbers.{Outcome}
 use Rattle.refusals.specs.Numbers.Outcome.{accepted, refused}
@@ -19,9 +19,9 @@ use Rattle.codes.specs.Coding.{codeOf}
 use Rattle.decoding.specs.Decoding.{decoded}
 use Rattle.codelaws.proofs.Laws.{coding-and-decoding}
 use Rattle.answers.specs.Answers.{packed}
-use Rattle.answers.specs.Apart.{Apart, upperHalf, zero-valued}
+use Rattle.answers.specs.Apart.{Apart, upperHalf, value-apart, zero-valued}
 use Rattle.paircalls.specs.Written.{bytesNumber, written}
-use Rattle.paircalls.specs.Statements.{readAnswer, writeAnswer, CodeOfPair, PairAnswers}
+use Rattle.paircalls.specs.Statements.{readAnswer, writeAnswer, refusedWith, CodeOfPair, PairAnswers}
 
 record PairOf (n : ℕ) (y : Bytes) : Type 0 where
   meaning : Meaning
@@ -58,15 +58,22 @@ write-apart n = go (written n) (answered n)
     go (accepted y) p = let low = p .means in omega arith
     go (refused number place) is = (omega arith, omega arith)
 
-unpaired-refused : (n : ℕ) → (CodeOfPair n → ⊥) → writeAnswer n ≡ 43 * 0x100000000
+write-refusals : (n : ℕ) → (upperHalf (writeAnswer n) ≡ 0) ⊎ (writeAnswer n ≡ refusedWith 43)
+write-refusals n = go (written n) (answered n) (write-apart n)
+  where
+    go : (o : Outcome Bytes) → Answered n o → Apart bytesNumber o → (upperHalf (packed bytesNumber o) ≡ 0) ⊎ (packed bytesNumber o ≡ refusedWith 43)
+    go (accepted y) p low = inl (value-apart bytesNumber y low .0)
+    go (refused number place) is low = inr (omega arith)
+
+unpaired-refused : (n : ℕ) → (CodeOfPair n → ⊥) → writeAnswer n ≡ refusedWith 43
 unpaired-refused n none = go (written n) (answered n)
   where
-    go : (o : Outcome Bytes) → Answered n o → packed bytesNumber o ≡ 43 * 0x100000000
+    go : (o : Outcome Bytes) → Answered n o → packed bytesNumber o ≡ refusedWith 43
     go (accepted y) p =
         absurd (none record { meaning = p .meaning; pair = record { first = y .first; second = y .second; means = p .means }; code = p .code })
     go (refused number place) is = omega arith
 
-refused-unpaired : (n : ℕ) → writeAnswer n ≡ 43 * 0x100000000 → CodeOfPair n → ⊥
+refused-unpaired : (n : ℕ) → writeAnswer n ≡ refusedWith 43 → CodeOfPair n → ⊥
 refused-unpaired n e c =
     let h = c .pair in
     let low = reading-and-writing .preferred-means (c .meaning) (h .first) (h .second) (h .means) in
@@ -93,6 +100,16 @@ module _ (a b : ℕ) (ha : a < 256) (hb : b < 256) where
           let r = coding-and-decoding .pair-refused a b number place e in
           (⊎-elim (λ x. omega arith) (λ x. omega arith) (r .0), omega arith)
 
+  read-refusals : (upperHalf (readAnswer a b) ≡ 0) ⊎ ((readAnswer a b ≡ refusedWith 27) ⊎ (readAnswer a b ≡ refusedWith 28))
+  read-refusals = go (meaningOf a b) refl read-apart
+    where
+      go : (o : Outcome Meaning) → meaningOf a b ≡ o → Apart codeOf o
+          → (upperHalf (packed codeOf o) ≡ 0) ⊎ ((packed codeOf o ≡ refusedWith 27) ⊎ (packed codeOf o ≡ refusedWith 28))
+      go (accepted m) e low = inl (value-apart codeOf m low .0)
+      go (refused number place) e low =
+          let r = coding-and-decoding .pair-refused a b number place e in
+          inr (⊎-elim (λ x. inl (omega arith)) (λ x. inr (omega arith)) (r .0))
+
   module _ (e : upperHalf (readAnswer a b) ≡ 0) where
     read-write : writeAnswer (readAnswer a b) ≡ bytesNumber (preferred a b)
     read-write =
@@ -109,6 +126,8 @@ pub pair-answers : PairAnswers
 pair-answers = record {
   read-apart = read-apart;
   write-apart = write-apart;
+  read-refusals = read-refusals;
+  write-refusals = write-refusals;
   unpaired-refused = unpaired-refused;
   refused-unpaired = refused-unpaired;
   read-write = read-write;
