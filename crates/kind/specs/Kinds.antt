@@ -2,8 +2,10 @@
 -- HED, TAL, DEF, END, CAL'; HLT is an event too, with a kind of its own since tests 29 and 30 look for it; a
 -- pair that is refused is known by its number, 27 or 28.
 -- kindOf     a pair's kind, by what the pair means
--- Numbered   the bounds of a kind's number: HED's is one byte, and DEF's and CAL's are 0 to 23
+-- Numbered   a kind's number: HED's is one byte, DEF's and CAL's are 0 to 23, a refused pair's is 27 or 28
 use Prim.Native.Nat.{_<_}
+use mathlib.Core.Path.{_≡_}
+use mathlib.Core.Logic.{_⊎_}
 use Rattle.meaning.specs.declared.Meaning.{Meaning}
 use Rattle.meaning.specs.declared.Meaning.the-variants.{Note, Dcy, Rup, Cal, Bmp, Flt, Rng, Snc, Fx, Def, Atk, Sus, Lfo, Pv, Rdn, Wav, Fm, Rls, Res, ThreeOff, Vol, Tal, End, Hlt, Src, Dst, Pw, Tem, Utl, Pnt, Hed, Flg, Ps, Fs, Sca, Vdp, Vrt, Aut, Tps, Aux, Pvd, Pvr, Max, Utv, Fc, Rtp, Hld, Ms, Jif, Dtn, Por}
 use Rattle.refusals.specs.Numbers.{Outcome}
@@ -73,4 +75,4 @@ Numbered (Kind.Def k) = k < 24
 Numbered Kind.End = Unit
 Numbered (Kind.Cal k) = k < 24
 Numbered Kind.Hlt = Unit
-Numbered (Kind.Bad n) = Unit
+Numbered (Kind.Bad n) = (n ≡ 27) ⊎ (n ≡ 28)

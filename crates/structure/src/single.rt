@@ -3,6 +3,7 @@ ghost use mathlib.Core.Path.{_≡_};
 ghost use mathlib.Core.List.{[], _∷_};
 ghost use Rattle.refusals.specs.Numbers.{hltMisplaced};
 ghost use Rattle.refusals.specs.Tests.{test, firstOf};
+ghost use Rattle.kind.specs.Kinds.{Numbered};
 ghost use Rattle.structure.specs.Tests.{pairTests};
 use kind::Kind;
 use refusals::Verdict;
@@ -20,6 +21,7 @@ fn unless_last(last: bool) -> Verdict
 
 // internal: the first of 27 to 29 that applies to a pair, which is the voice's last or not.
 pub fn test_pair(kind: Kind, last: bool) -> Verdict
+    requires { ⌜ Numbered kind ⌝ }
     ensures { λ r. ⌜ r ≡ firstOf (pairTests kind last) ⌝ }
 {
     match kind {
@@ -30,12 +32,6 @@ pub fn test_pair(kind: Kind, last: bool) -> Verdict
         Kind::End => unless_last(last),
         Kind::Cal(_) => unless_last(last),
         Kind::Hlt => unless_last(!last),
-        Kind::Bad(number) => {
-            if (number == refusals::UNASSIGNED_PAIR) | (number == refusals::VALUE_RANGE) {
-                Verdict::Failed(number)
-            } else {
-                unless_last(last)
-            }
-        }
+        Kind::Bad(number) => Verdict::Failed(number),
     }
 }

@@ -11,10 +11,10 @@ use Rattle.bodies.specs.Voice.{pairAt}
 use Rattle.bodies.proofs.kind_at.Statement.{statement}
 use Rattle.bodies.proofs.kind_at.Tie as tie
 
-with-number : (bs : List ℕ) (i : ℕ) (k : Kind) → getD bs (2 * i) 0 < 256 → getD bs (2 * i + 1) 0 < 256 → k ≡ kindOf (pairAt bs i)
+with-number : (bs : List ℕ) (i : ℕ) (k : Kind) → getD bs (2 * i + 1) 0 < 256 → k ≡ kindOf (pairAt bs i)
     → (k ≡ kindOf (pairAt bs i)) × Numbered k
 unfolding pairAt
-with-number bs i k a b e = (e, subst Numbered (sym e) (kind-numbered _ _ a b))
+with-number bs i k b e = (e, subst Numbered (sym e) (kind-numbered (getD bs (2 * i) 0) _ b))
 
 returns : tie.Need-returns
 unfolding pairAt
@@ -22,7 +22,7 @@ returns c =
     let args = c .before .before .before .args in
     let i = args .i in
     let bytes = c .before .before .shared-slice-known .given in
-    with-number (args .voice .now) i _ (bytes (2 * i) .fits) (bytes (2 * i + 1) .fits) (rw (c .before .bytes-at .ensures) at (c .kind-of .ensures))
+    with-number (args .voice .now) i _ (bytes (2 * i + 1) .fits) (rw (c .before .bytes-at .ensures) at (c .kind-of .ensures))
 
 pub kind-at-spec : {M : Type 1} → statement M
 kind-at-spec = tie.close (tie.spec (λ c κs. search needs) (λ c κs. search needs) returns)

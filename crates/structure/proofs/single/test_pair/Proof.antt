@@ -1,19 +1,15 @@
 -- `structure::single::test_pair` meets its contract.
 use borrow.Author.Needs.{needs}
-use lib.Dec.{eqb}
-use Rattle.logic.specs.Truth.{neither}
+use mathlib.Core.Path.{subst}
+use Rattle.kind.specs.Kinds.{Numbered}
 use Rattle.structure.proofs.Singles.{bad-either}
 use Rattle.structure.proofs.single.test_pair.Statement.{statement}
 use Rattle.structure.proofs.single.test_pair.Tie as tie
 
 returns-8 : tie.Need-returns-8
-returns-8 c = rw (c .before .before .kind .given .1) (bad-either _ _ (c .if1 .taken))
-
-returns-9 : tie.Need-returns-9
-returns-9 c =
-    let number = c .before .before .before .kind .given .0 .0 in
-    let none = neither (eqb number 27) (eqb number 28) (c .before .if1 .left) in
-    rw (c .before .before .before .kind .given .1, none .0, none .1, c .unless-last8 .ensures)
+returns-8 c =
+    let is = c .before .kind .given .1 in
+    rw is (bad-either _ _ (subst Numbered is (c .before .before .before .pre)))
 
 pub test-pair-spec : {M : Type 1} → statement M
 test-pair-spec =
@@ -34,7 +30,6 @@ test-pair-spec =
     (λ c. search needs)
     (λ c κs. search needs)
     (λ c. search needs)
-    (λ c κs. search needs)
     (λ c. rw (c .before .enum-told .given .1, c .unless-last .ensures))
     (λ c. rw (c .before .enum-told2 .given .1, c .unless-last2 .ensures))
     (λ c. rw (c .before .enum-told3 .given .1, c .unless-last3 .ensures))
@@ -42,5 +37,4 @@ test-pair-spec =
     (λ c. rw (c .before .enum-told5 .given .1, c .unless-last5 .ensures))
     (λ c. rw (c .before .enum-told6 .given .1, c .unless-last6 .ensures))
     (λ c. rw (c .before .enum-told7 .given .1, c .unless-last7 .ensures))
-    returns-8
-    returns-9)
+    returns-8)
