@@ -11,8 +11,8 @@
 use Prim.Native.Nat.{ℕ}
 use mathlib.Core.Path.{_≡_, refl, sym, ap, _∙_, subst}
 use mathlib.Core.Bool.{Bool, true, false}
-use mathlib.Core.List.{List, [], _∷_}
-use mathlib.Core.Logic.{_⊎_, ⊎-elim}
+use mathlib.Core.List.{List, []}
+use mathlib.Core.Logic.{⊎-elim}
 use native.Mathlib.Omega.{arith}
 use lib.Dec.{eqb}
 use borrow.Author.Tests.{eqb-true, eq-eqb}
@@ -22,6 +22,7 @@ use Rattle.refusals.specs.Numbers.{Outcome}
 use Rattle.bodies.specs.Bodies.{Body, done, event, repeat, phrase, call, bodyOf}
 use Rattle.bodies.specs.Playing.{Interpretation, interpret, learn, phrases, phrasesOf}
 use Rattle.bodies.specs.Order.{also, closedIn, Flat, Ordered, definitions, Called, noneClosed, Sound}
+use Rattle.bodies.specs.Faithful.{TheOne}
 
 pub differ : false ≡ true → ⊥
 differ q = let z : _≡_ {A = ℕ} 0 1 = cc in omega arith
@@ -119,12 +120,6 @@ module _ {A : Type 0} (m : Interpretation A) where
   flat-phrases ρ (phrase j i r) f = absurd f
   flat-phrases ρ (call j r) f = flat-phrases ρ r f
 
-  -- the one DEF of a number in a body, and that the number stands for what is made of its body
-  pub record TheOne (σ : ℕ → A) (k : ℕ) (b : Body) : Type 0 where
-    pub body : Body
-    pub only : definitions k b ≡ body ∷ []
-    pub means : σ k ≡ interpret m σ body
-
   pub here : (σ : ℕ → A) (K : ℕ → Bool) (ρ : ℕ → A) (j : ℕ) (i r : Body) → Ordered K (phrase j i r) → Agree (closedIn K (phrase j i r)) (phrases m ρ (phrase j i r)) σ
       → σ j ≡ interpret m σ i
   unfolding phrases Ordered closedIn
@@ -138,7 +133,7 @@ module _ {A : Type 0} (m : Interpretation A) where
       sym told ∙ kept ∙ same
 
   pub the-one : (σ : ℕ → A) (K : ℕ → Bool) (ρ : ℕ → A) (b : Body) (k : ℕ) → Ordered K b → Agree (closedIn K b) (phrases m ρ b) σ
-      → K k ≡ false → closedIn K b k ≡ true → TheOne σ k b
+      → K k ≡ false → closedIn K b k ≡ true → TheOne m σ k b
   unfolding phrases definitions Ordered closedIn
   the-one σ K ρ (done c) k o a f t = absurd (differ (sym f ∙ t))
   the-one σ K ρ (event e r) k o a f t = let x = the-one σ K ρ r k o a f t in record { body = x .body; only = x .only; means = x .means }

@@ -1,8 +1,8 @@
 -- The bodies of a voice written out again are its stored pairs; no event in them is HED, TAL, DEF, END or
 -- CAL.
--- read-back   a voice whose bodies are shut, HED n, its body, TAL; DEF k, its body, END; .., is its stored
---             pairs
--- Plain, Plains, events-plain   each event's kind is neither HED, TAL, DEF, END nor CAL
+-- read-back     a voice whose bodies are shut, HED n, its body, TAL; DEF k, its body, END; .., is its stored
+--               pairs
+-- only-events   each event's kind is neither HED, TAL, DEF, END nor CAL
 use Prim.Native.Nat.{ℕ, _+_}
 use mathlib.Core.Path.{_≡_, refl, sym, ap, _∙_, subst}
 use mathlib.Core.List.{List, [], _∷_, _++_, append-assoc, append-nil}
@@ -13,6 +13,7 @@ use Rattle.kind.specs.declared.Kind.the-variants as Kind
 use Rattle.kind.specs.Kinds.{kindOf}
 use Rattle.bodies.specs.Bodies.{Event, Closer, byTal, byEnd, byStop, Body, done, event, repeat, phrase, call, inner, outer, withPair, eventAt, bodies, bodyOf, Piece, one, HED, TAL, DEF, END, CAL, piece, pieces, writtenOut}
 use Rattle.bodies.specs.Order.{Shut, Sound}
+use Rattle.bodies.specs.Faithful.{IsEvent, OnlyEvents}
 
 -- a body with the closer that it ends with
 unfoldable closer : Closer → List Piece
@@ -79,49 +80,32 @@ read-back v s =
     let shut : spelled (inner (bodies 0 v)) ≡ writtenOut (inner (bodies 0 v)) ++ [] = shut-spelled byStop (inner (bodies 0 v)) (s .shut) in
     rw (append-nil (writtenOut (inner (bodies 0 v)))) at (sym shut) ∙ (rw (append-nil (spelled (inner (bodies 0 v)))) at whole)
 
-abbrev pub Plain : Kind → Type 0
-Plain Kind.Event = Unit
-Plain (Kind.Hed n) = ⊥
-Plain Kind.Tal = ⊥
-Plain (Kind.Def k) = ⊥
-Plain Kind.End = ⊥
-Plain (Kind.Cal k) = ⊥
-Plain Kind.Hlt = Unit
-Plain (Kind.Bad n) = Unit
+unfoldable AllEvents : List Body → Type 0
+AllEvents [] = Unit
+AllEvents (b ∷ bs) = OnlyEvents b × AllEvents bs
 
-unfoldable pub Plains : Body → Type 0
-Plains (done c) = Unit
-Plains (event e r) = Plain (kindOf (e .meaning)) × Plains r
-Plains (repeat n i r) = Plains i × Plains r
-Plains (phrase k i r) = Plains i × Plains r
-Plains (call k r) = Plains r
+inner-events : (bs : List Body) → AllEvents bs → OnlyEvents (inner bs) × AllEvents (outer bs)
+unfolding inner outer AllEvents OnlyEvents
+inner-events [] p = (tt, tt)
+inner-events (b ∷ bs) p = p
 
-unfoldable AllPlain : List Body → Type 0
-AllPlain [] = Unit
-AllPlain (b ∷ bs) = Plains b × AllPlain bs
+joined-events : (e : Event) (z : Kind) (bs : List Body) → kindOf (e .meaning) ≡ z → AllEvents bs → AllEvents (withPair e z bs)
+unfolding withPair AllEvents OnlyEvents
+joined-events e Kind.Event bs q p = let x = inner-events bs p in ((subst IsEvent (sym q) tt, x .0), x .1)
+joined-events e (Kind.Hed n) bs q p = let x = inner-events bs p in let y = inner-events (outer bs) (x .1) in ((x .0, y .0), y .1)
+joined-events e Kind.Tal bs q p = (tt, p)
+joined-events e (Kind.Def k) bs q p = let x = inner-events bs p in let y = inner-events (outer bs) (x .1) in ((x .0, y .0), y .1)
+joined-events e Kind.End bs q p = (tt, p)
+joined-events e (Kind.Cal k) bs q p = inner-events bs p
+joined-events e Kind.Hlt bs q p = let x = inner-events bs p in ((subst IsEvent (sym q) tt, x .0), x .1)
+joined-events e (Kind.Bad n) bs q p = let x = inner-events bs p in ((subst IsEvent (sym q) tt, x .0), x .1)
 
-inner-plain : (bs : List Body) → AllPlain bs → Plains (inner bs) × AllPlain (outer bs)
-unfolding inner outer AllPlain Plains
-inner-plain [] p = (tt, tt)
-inner-plain (b ∷ bs) p = p
-
-joined-plain : (e : Event) (z : Kind) (bs : List Body) → kindOf (e .meaning) ≡ z → AllPlain bs → AllPlain (withPair e z bs)
-unfolding withPair AllPlain Plains
-joined-plain e Kind.Event bs q p = let x = inner-plain bs p in ((subst Plain (sym q) tt, x .0), x .1)
-joined-plain e (Kind.Hed n) bs q p = let x = inner-plain bs p in let y = inner-plain (outer bs) (x .1) in ((x .0, y .0), y .1)
-joined-plain e Kind.Tal bs q p = (tt, p)
-joined-plain e (Kind.Def k) bs q p = let x = inner-plain bs p in let y = inner-plain (outer bs) (x .1) in ((x .0, y .0), y .1)
-joined-plain e Kind.End bs q p = (tt, p)
-joined-plain e (Kind.Cal k) bs q p = inner-plain bs p
-joined-plain e Kind.Hlt bs q p = let x = inner-plain bs p in ((subst Plain (sym q) tt, x .0), x .1)
-joined-plain e (Kind.Bad n) bs q p = let x = inner-plain bs p in ((subst Plain (sym q) tt, x .0), x .1)
-
-bodies-plain : (i : ℕ) (v : List (Outcome Meaning)) → AllPlain (bodies i v)
-unfolding bodies AllPlain
-bodies-plain i [] = tt
-bodies-plain i (m ∷ ms) = joined-plain (eventAt i m) (kindOf m) (bodies (i + 1) ms) refl (bodies-plain (i + 1) ms)
+bodies-events : (i : ℕ) (v : List (Outcome Meaning)) → AllEvents (bodies i v)
+unfolding bodies AllEvents
+bodies-events i [] = tt
+bodies-events i (m ∷ ms) = joined-events (eventAt i m) (kindOf m) (bodies (i + 1) ms) refl (bodies-events (i + 1) ms)
 
 -- of any pairs at all
-pub events-plain : (v : List (Outcome Meaning)) → Plains (bodyOf v)
+pub only-events : (v : List (Outcome Meaning)) → OnlyEvents (bodyOf v)
 unfolding bodyOf
-events-plain v = inner-plain (bodies 0 v) (bodies-plain 0 v) .0
+only-events v = inner-events (bodies 0 v) (bodies-events 0 v) .0

@@ -27,7 +27,8 @@ use Rattle.container.specs.Layout.{containerTests}
 use Rattle.container.specs.ByNumber.{head-number}
 use Rattle.mus.specs.declared.Song.{Song}
 use Rattle.mus.specs.Song.{musOutcome}
-use Rattle.mus.specs.Laws.{accepted-clear, head-refused}
+use Rattle.mus.specs.Acceptance.{accepted-clear}
+use Rattle.mus.specs.Laws.{head-refused}
 use Rattle.mus.specs.ByNumber.{Above, head-above}
 use Rattle.card.specs.Judging as judging
 use Rattle.card.specs.Judging.{Judgement, asSong, judged}

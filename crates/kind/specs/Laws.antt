@@ -81,8 +81,8 @@ same-kind j k t =
     let numbers = eqb→eq (held j) (held k) (all-right (eqb (tag j) (tag k)) (eqb (held j) (held k)) t) in
     sym (made-back j) ∙ (λ i. made (tags i) (numbers i)) ∙ made-back k
 
--- a test of kinds that events, 27 and 28 pass: so does every pair, where HED with its byte and the second byte
--- after 01 pass
+-- a test of kinds that events, 27 and 28 pass: every pair passes it where HED with its second byte, and the
+-- second byte after 01, do
 module _ (f : Kind → Bool) (event : T (f Event)) (none : T (f (Bad 27))) (out : T (f (Bad 28))) where
   abbrev Held : Outcome Meaning → Type 0
   Held x = T (f (kindOf x))

@@ -10,7 +10,7 @@ use mathlib.Core.Bool.{true, false, _||_}
 use mathlib.Core.List.{List, [], _∷_}
 use native.Mathlib.Omega.{arith}
 use lib.Dec.{eqb, ltb}
-use lib.ListN.{length, take, drop}
+use lib.ListN.{length, take, drop, length-take, length-drop}
 use Rattle.logic.specs.Cases.{cases}
 use Rattle.fields.specs.declared.Span.{Span}
 use Rattle.fields.specs.Parts.{partOf}
@@ -18,7 +18,7 @@ use Rattle.refusals.specs.Numbers.Outcome.{accepted, refused}
 use Rattle.refusals.specs.Tests.{firstOf, andThen}
 use Rattle.refusals.specs.Laws.{passed-none, two-ways, guarded-passed, refused-once}
 use Rattle.container.specs.Layout.{layoutOf}
-use Rattle.container.specs.Laws.{short-file, voice1-fits, voice2-fits, voice3-fits}
+use Rattle.container.specs.Laws.{VoiceFits, short-file, voice1-fits, voice2-fits, voice3-fits}
 use Rattle.bodies.specs.Voice.{pairs}
 use Rattle.mus.specs.declared.Voice.{Voice}
 use Rattle.mus.specs.declared.Song.{Song}
@@ -27,7 +27,7 @@ use Rattle.mus.specs.declared.VoiceAnswer.the-variants.{Accepted, Refuse
 use Rattle.mus.specs.Voices.{outcomeOfVoice}
 use Rattle.mus.specs.Song.{musOutcome}
 use Rattle.mus.specs.Asked.{numberTests, songVoice, voiceAsked}
-use Rattle.mus.specs.Laws.{Passes, voiceReport, songOf, accepted-clear, then-given}
+use Rattle.mus.specs.Acceptance.{Passes, voiceReport, songOf, accepted-clear, then-given}
 use Rattle.mus.specs.Bounds.{InSong}
 
 pub voice-once : (a b : VoiceAnswer) → outcomeOfVoice a ≡ outcomeOfVoice b → a ≡ b
@@ -68,11 +68,18 @@ take-own zero l = refl
 take-own (suc n) [] = refl
 take-own (suc n) (x ∷ l) = ap (λ (r : List ℕ). x ∷ r) (take-own n l)
 
--- a voice where its span lies
-span-in : (f : List ℕ) (s : Span) → Passes (pairs (partOf f s)) → length f ≤ 65536 → s .from ≤ 65536 → InSong f (voiceReport (s .from) (partOf f s))
-span-in f s p short low =
+-- a voice where its span lies; 23 lets no voice of 0 bytes pass
+span-in : (f : List ℕ) (s : Span) → Passes (pairs (partOf f s)) → length f ≤ 65536 → VoiceFits f s → InSong f (voiceReport (s .from) (partOf f s))
+span-in f s p short fits =
     let own = take-own (s .len) (drop (s .from) f) in
-    record { passes = rw own p; short = short; low = low; events = rw own; walked = rw own }
+    record {
+      passes = rw own p;
+      stored = rw own (omega (arith, length-take (s .len) (drop (s .from) f), length-drop (s .from) f, fits .0, fits .1, fits .2));
+      short = short;
+      low = omega (arith, fits .2);
+      events = rw own;
+      walked = rw own;
+    }
 
 pub in-song : (f : List ℕ) (s : Song) (n : ℕ) → musOutcome f ≡ accepted s → InSong f (songVoice s n)
 unfolding songOf
@@ -81,9 +88,9 @@ in-song f s n e =
     let k = c .0 .container in
     let short = short-file f k in
     subst (λ (x : Song). InSong f (songVoice x n)) (c .1)
-    (cases (eqb n 1) (λ a. rw a (span-in f (layoutOf f .voice1) (c .0 .voice1) short (omega (arith, voice1-fits f k .2))))
-    (λ a. cases (eqb n 2) (λ b. rw (a, b) (span-in f (layoutOf f .voice2) (c .0 .voice2) short (omega (arith, voice2-fits f k .2))))
-    (λ b. rw (a, b) (span-in f (layoutOf f .voice3) (c .0 .voice3) short (omega (arith, voice3-fits f k .2))))))
+    (cases (eqb n 1) (λ a. rw a (span-in f (layoutOf f .voice1) (c .0 .voice1) short (voice1-fits f k)))
+    (λ a. cases (eqb n 2) (λ b. rw (a, b) (span-in f (layoutOf f .voice2) (c .0 .voice2) short (voice2-fits f k)))
+    (λ b. rw (a, b) (span-in f (layoutOf f .voice3) (c .0 .voice3) short (voice3-fits f k)))))
 
 pub asked-in-song : (f : List ℕ) (n : ℕ) (v : Voice) → voiceAsked f n ≡ accepted v → InSong f v
 asked-in-song f n v e = let a = asked-accepted f n v e in subst (InSong f) (a .voice) (in-song f (a .song) n (a .file))

@@ -1,7 +1,7 @@
 -- What code may count on, for contracts.
 -- InFile   a file that 22 lets pass, and voices that begin in it
 -- InSong   a voice of an accepted file, as acceptance has reported it
-use Prim.Native.Nat.{ℕ, _≤_}
+use Prim.Native.Nat.{ℕ, _<_, _≤_}
 use mathlib.Core.Path.{_≡_}
 use mathlib.Core.List.{List}
 use lib.ListN.{length}
@@ -10,7 +10,7 @@ use Rattle.bodies.specs.Voice.{pairs}
 use Rattle.bodies.specs.Playing.{eventsOf, walkedOf}
 use Rattle.mus.specs.declared.Voice.{Voice}
 use Rattle.mus.specs.Asked.{bytesOf}
-use Rattle.mus.specs.Laws.{Passes}
+use Rattle.mus.specs.Acceptance.{Passes}
 
 pub record InFile (f : List ℕ) (l : Layout) : Type 0 where
   pub short : length f ≤ 65536
@@ -20,6 +20,7 @@ pub record InFile (f : List ℕ) (l : Layout) : Type 0 where
 
 pub record InSong (f : List ℕ) (v : Voice) : Type 0 where
   pub passes : Passes (pairs (bytesOf f v))
+  pub stored : 1 < length (bytesOf f v)
   pub short : length f ≤ 65536
   pub low : v .offset ≤ 65536
   pub events : v .events ≡ eventsOf (pairs (bytesOf f v))

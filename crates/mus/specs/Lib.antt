@@ -2,8 +2,10 @@ pub mod Voices
 pub mod Song
 pub mod Text
 pub mod Asked
+pub mod Acceptance
 pub mod Laws
 pub mod Bounds
 pub mod AskedLaws
+pub mod AcceptedVoice
 pub mod ByNumber
 pub mod Example

@@ -12,7 +12,7 @@ use Rattle.container.specs.Layout.{layoutOf}
 use Rattle.container.specs.Laws.{short-file, voice1-fits, voice2-fits, voice3-fits}
 use Rattle.mus.specs.declared.Song.{Song}
 use Rattle.mus.specs.Song.{musOutcome}
-use Rattle.mus.specs.Laws.{voiceReport, songOf, accepted-clear}
+use Rattle.mus.specs.Acceptance.{voiceReport, songOf, accepted-clear}
 use Rattle.muscalls.specs.Bounds.{NarrowVoice, NarrowSong}
 
 pub narrow-song : (f : List ℕ) (s : Song) → musOutcome f ≡ accepted s → NarrowSong s

@@ -2,3 +2,4 @@ pub mod Openers
 pub mod Singles
 pub mod Passes
 pub mod Sound
+pub mod LetPass

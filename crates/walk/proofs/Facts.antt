@@ -26,7 +26,7 @@ use Rattle.bodies.proofs.Meant.{Meant, voice-meant}
 use Rattle.bodies.proofs.Stored.{pairs-cons, open-cons}
 use Rattle.structure.specs.Tests.{Opener, byHed, byDef, Nesting, nestingTests, openersAfter, closedBy, nestingAfter, start}
 use Rattle.structure.specs.Findings.{nestingsTests, AllNone}
-use Rattle.mus.specs.Laws.{Passes}
+use Rattle.mus.specs.Acceptance.{Passes}
 use Rattle.mus.proofs.Accepted.{accepted-sound}
 use Rattle.walk.proofs.Contexts.{Stands, Start, flat-closed}
 

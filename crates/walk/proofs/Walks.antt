@@ -25,7 +25,7 @@ use Rattle.bodies.specs.Places.{openAt, bodyAt}
 use Rattle.bodies.proofs.Cells.{blank}
 use Rattle.bodies.proofs.Related.{related, related-phrases, length-copies, few, fewer}
 use Rattle.bodies.proofs.Stored.{open-end, event-at, hlt-at, bad-at, hed-at, tal-at, def-at, end-at, cal-at}
-use Rattle.mus.specs.Laws.{Passes}
+use Rattle.mus.specs.Acceptance.{Passes}
 use Rattle.mus.proofs.Accepted.{accepted-sound}
 use Rattle.moves.specs.declared.Move.{Move}
 use Rattle.moves.specs.declared.Move.the-variants.{Repeat, Phrase, Call, Tal, End}

@@ -7,7 +7,7 @@ use mathlib.Core.List.{List}
 use lib.ListN.{length}
 use Rattle.bodies.specs.Voice.{pairs}
 use Rattle.bodies.specs.Playing.{eventsOf, walkedOf}
-use Rattle.mus.specs.Laws.{Passes}
+use Rattle.mus.specs.Acceptance.{Passes}
 
 pub record Listable (bs : List ℕ) (base first count walked : ℕ) (os js : List ℕ) : Type 0 where
   pub passes : Passes (pairs bs)

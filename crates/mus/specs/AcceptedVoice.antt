@@ -1,0 +1,55 @@
+-- What acceptance has shown of a voice and of a song. proofs/Accepted.antt proves it: `accepted-voice` for
+-- each voice of at least one pair to which none of 27 to 33 applies, `accepted-song` for each accepted file.
+-- AcceptedVoice   of a voice's stored pairs
+-- ReportedVoice   of a voice as it is reported
+-- AcceptedSong    of the three voices of a file
+use Prim.Native.Nat.{ℕ, _≤_}
+use mathlib.Core.Path.{_≡_}
+use mathlib.Core.List.{List}
+use lib.ListN.{length}
+use Rattle.meaning.specs.declared.Meaning.{Meaning}
+use Rattle.refusals.specs.Numbers.{Outcome}
+use Rattle.bodies.specs.Voice.{pairs}
+use Rattle.bodies.specs.Bodies.{bodyOf, pieces, writtenOut}
+use Rattle.bodies.specs.Playing.{Interpretation, phrasesOf, played, eventsOf, walkedOf, depthOf}
+use Rattle.bodies.specs.Order.{Called}
+use Rattle.bodies.specs.Faithful.{OnlyEvents, TheOne, AllMean, EndsInHlt}
+use Rattle.mus.specs.declared.Voice.{Voice}
+use Rattle.mus.specs.declared.Song.{Song}
+use Rattle.mus.specs.Asked.{bytesOf}
+
+pub record AcceptedVoice (v : List (Outcome Meaning)) : Type 1 where
+  -- every stored pair means something: none is unassigned or out of its range
+  pub means : AllMean v
+  -- the bodies written out again are the stored pairs: HED n, its body, TAL; DEF k, its body, END; CAL k; and
+  -- events
+  pub written : writtenOut (bodyOf v) ≡ pieces 0 v
+  -- no event in them is HED, TAL, DEF, END or CAL
+  pub plain : OnlyEvents (bodyOf v)
+  -- each CAL k stands for the body of the one DEF k of the voice, played out; and so for its pairs walked,
+  -- its depth and whatever else is made of bodies
+  pub calls : {A : Type 0} (m : Interpretation A) (k : ℕ) → Called k (bodyOf v) → TheOne m (phrasesOf m v) k (bodyOf v)
+  -- the played-out voice ends in its only HLT, the last stored pair
+  pub ends : EndsInHlt (played v) (length v)
+  -- at most 16 repeats and calls are in progress at once
+  pub depth : depthOf v ≤ 16
+  -- at most 1,048,576 pairs are walked
+  pub walked : walkedOf v ≤ 1048576
+  -- no more events are played than pairs walked
+  pub events : eventsOf v ≤ walkedOf v
+
+pub record ReportedVoice (f : List ℕ) (v : Voice) : Type 1 where
+  -- of its bytes in the file all that holds
+  pub stored : AcceptedVoice (pairs (bytesOf f v))
+  -- the events reported are those of the played-out voice
+  pub events : v .events ≡ eventsOf (pairs (bytesOf f v))
+  -- the pairs walked are those of the definition
+  pub walked : v .walked ≡ walkedOf (pairs (bytesOf f v))
+  -- and at most 1,048,576
+  pub few : v .walked ≤ 1048576
+
+pub record AcceptedSong (f : List ℕ) (s : Song) : Type 1 where
+  -- each voice of an accepted file is so
+  pub voice1 : ReportedVoice f (s .voice1)
+  pub voice2 : ReportedVoice f (s .voice2)
+  pub voice3 : ReportedVoice f (s .voice3)
