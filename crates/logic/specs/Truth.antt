@@ -1,6 +1,6 @@
 -- What a test of two conditions joined shows of each.
--- both, both-left, both-right            of `&&` where it holds
--- neither, neither-left, neither-right   of `||` where it does not
+-- both, both-left, both-right   of `&&` where it holds
+-- neither, neither-right        of `||` where it does not
 use Prim.Native.Nat.{ℕ}
 use mathlib.Core.Path.{_≡_, refl}
 use mathlib.Core.Bool.{Bool, true, false, _&&_, _||_}
@@ -19,9 +19,6 @@ both-right a b e = both a b e .1
 pub neither : (a b : Bool) → a || b ≡ false → (a ≡ false) × (b ≡ false)
 neither true b e = let z : _≡_ {A = ℕ} 0 1 = cc in absurd (omega arith)
 neither false b e = (refl, e)
-
-pub neither-left : (a b : Bool) → a || b ≡ false → a ≡ false
-neither-left a b e = neither a b e .0
 
 pub neither-right : (a b : Bool) → a || b ≡ false → b ≡ false
 neither-right a b e = neither a b e .1

@@ -22,16 +22,20 @@ use Rattle.sid.specs.Answers.{sidOutcome, Passing, testedOutcome, headed}
 use Rattle.sid.specs.Laws.{headed-guarded, read-headed, accepted-fits}
 use Rattle.sidload.specs.Loading.{loadOutcome, putOutcome, memoryWith, memoryAfter}
 
+-- What putting comes back with, with its header made, is what loading comes back with.
 pub load-headed : (f : List ℕ) (cells : ℕ) (o : Outcome Passing) → o ≡ putOutcome f cells → headed f o ≡ loadOutcome f cells
 unfolding putOutcome loadOutcome
 load-headed f cells o e =
     let size = firstOf (test memorySize (not (eqb cells 65536)) ∷ []) in
     ap (headed f) e ∙ headed-guarded f size (testedOutcome f) ∙ ap (guarded size) (read-headed f (testedOutcome f) refl)
 
+-- 'Loading leaves every cell but the payload's as it stood': an accepted file's payload is put into a memory
+-- of 65,536 cells, and nothing else.
 pub memory-loaded : (f m : List ℕ) (h : Header) → length m ≡ 65536 → sidOutcome f ≡ accepted h → memoryAfter f m ≡ put m (h .load) (partOf f (h .payload))
 unfolding memoryAfter loadOutcome
 memory-loaded f m h size e = rw (eq-eqb (length m) 65536 size, e)
 
+-- Loading never changes how many cells there are.
 pub memory-length : (f m : List ℕ) → length (memoryAfter f m) ≡ length m
 unfolding memoryAfter loadOutcome
 memory-length f m = cases (eqb (length m) 65536) (λ p. rw p (go (eqb-true (length m) 65536 p) (sidOutcome f) refl)) (λ p. rw p)
