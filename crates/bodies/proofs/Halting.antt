@@ -15,7 +15,7 @@ use Rattle.meaning.specs.declared.Meaning.{Meaning}
 use Rattle.meaning.specs.declared.Meaning.the-variants as Meaning
 use Rattle.refusals.specs.Numbers.{Outcome}
 use Rattle.refusals.specs.Numbers.Outcome.{accepted}
-use Rattle.bodies.specs.Bodies.{Event, Body, done, event, repeat, phrase, call, bodyOf, Piece, one, HED, TAL, DEF, END, CAL, pieces, writtenOut}
+use Rattle.bodies.specs.Bodies.{Event, Closer, Body, done, event, repeat, phrase, call, bodyOf, Piece, one, HED, TAL, DEF, END, CAL, pieces, writtenOut}
 use Rattle.bodies.specs.Playing.{interpret, learn, phrases, copies, playing, phrasesOf, played}
 use Rattle.bodies.specs.Order.{Sound}
 use Rattle.bodies.specs.Faithful.{NoHlt, EndsInHlt}
@@ -107,6 +107,15 @@ quiet-phrases calls c (phrase k i r) h =
     quiet-phrases (learn k (interpret playing calls i) calls) (calm-learn k _ calls (quiet-played calls c i (s .0)) c) r (s .1)
 quiet-phrases calls c (call k r) h = quiet-phrases calls c r (h .1)
 
+-- a body that is written with nothing is its end
+only-end : (P : Body → Type 0) → ((d : Closer) → P (done d)) → (b : Body) → Empty (writtenOut b) → P b
+unfolding writtenOut
+only-end P p (done d) h = p d
+only-end P p (event e r) h = absurd h
+only-end P p (repeat t i r) h = absurd h
+only-end P p (phrase k i r) h = absurd h
+only-end P p (call k r) h = absurd h
+
 module _ (n : ℕ) where
   halted-after : (xs es : List Event) → NoHlt xs → EndsInHlt es n → EndsInHlt (xs ++ es) n
   halted-after xs es p h =
@@ -118,23 +127,6 @@ module _ (n : ℕ) where
         halts = h .halts;
         only = no-hlt-append xs (h .before) p (h .only);
       }
-
-  -- of a body with no pairs nothing is left
-  none-left : (calls : ℕ → List Event) (b : Body) → Empty (writtenOut b) → interpret playing calls b ≡ []
-  unfolding writtenOut interpret
-  none-left calls (done d) h = refl
-  none-left calls (event e r) h = absurd h
-  none-left calls (repeat t i r) h = absurd h
-  none-left calls (phrase k i r) h = absurd h
-  none-left calls (call k r) h = absurd h
-
-  none-defined : (calls : ℕ → List Event) (b : Body) → Empty (writtenOut b) → phrases playing calls b ≡ calls
-  unfolding writtenOut phrases
-  none-defined calls (done d) h = refl
-  none-defined calls (event e r) h = absurd h
-  none-defined calls (repeat t i r) h = absurd h
-  none-defined calls (phrase k i r) h = absurd h
-  none-defined calls (call k r) h = absurd h
 
   -- HED, DEF and CAL are not HLT, and so for what stands between an opener and its closer
   opened : (p : Piece) (ps : List Piece) → (Stops n p → ⊥) → Ending n (p ∷ ps) → Ending n ps
@@ -150,7 +142,7 @@ module _ (n : ℕ) where
   ending-played calls c (done d) h = absurd h
   ending-played calls c (event e r) h =
       ⊎-elim
-      (λ s. record { before = []; last = e; split = ap (λ (l : List Event). e ∷ l) (none-left calls r (s .1)); number = s .0 .0; halts = s .0 .1; only = tt })
+      (λ s. record { before = []; last = e; split = ap (λ (l : List Event). e ∷ l) (only-end (λ (b : Body). interpret playing calls b ≡ []) (λ d. refl) r (s .1)); number = s .0 .0; halts = s .0 .1; only = tt })
       (λ s. halted-after (e ∷ []) (interpret playing calls r) (s .0, tt) (ending-played calls c r (s .1)))
       h
   ending-played calls c (repeat t i r) h =
@@ -165,7 +157,7 @@ module _ (n : ℕ) where
   unfolding writtenOut phrases Ending
   ending-phrases calls c (done d) h = absurd h
   ending-phrases calls c (event e r) h =
-      ⊎-elim (λ s. subst Calm (sym (none-defined calls r (s .1))) c) (λ s. ending-phrases calls c r (s .1)) h
+      ⊎-elim (λ s. only-end (λ (b : Body). Calm (phrases playing calls b)) (λ d. c) r (s .1)) (λ s. ending-phrases calls c r (s .1)) h
   ending-phrases calls c (repeat t i r) h =
       let s = within (HED t) TAL i r (λ x. x) (λ x. x) h in
       ending-phrases (phrases playing calls i) (quiet-phrases calls c i (s .0)) r (s .1)

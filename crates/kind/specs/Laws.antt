@@ -75,6 +75,7 @@ made-back (Bad n) = refl
 abbrev pub sameKind : Kind → Kind → Bool
 sameKind j k = eqb (tag j) (tag k) && eqb (held j) (held k)
 
+-- kinds that compare as the same are the same
 pub same-kind : (j k : Kind) → T (sameKind j k) → j ≡ k
 same-kind j k t =
     let tags = eqb→eq (tag j) (tag k) (all-left (eqb (tag j) (tag k)) (eqb (held j) (held k)) t) in

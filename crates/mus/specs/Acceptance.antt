@@ -100,6 +100,7 @@ clear-accepted f c =
     let l = layoutOf f in
     rw (none-layout f (c .container), passes-voice (l .voice1 .from) (partOf f (l .voice1)) (c .voice1), passes-voice (l .voice2 .from) (partOf f (l .voice2)) (c .voice2), passes-voice (l .voice3 .from) (partOf f (l .voice3)) (c .voice3))
 
+-- where what comes after a part is accepted, the part is accepted with a value, and so is what comes after it
 pub record Given {A B : Type 0} (o : Outcome A) (g : A → Outcome B) (b : B) : Type 0 where
   pub value : A
   pub was : o ≡ accepted value

@@ -19,9 +19,13 @@ pub record InFile (f : List ℕ) (l : Layout) : Type 0 where
   pub voice3 : l .voice3 .from ≤ 65536
 
 pub record InSong (f : List ℕ) (v : Voice) : Type 0 where
+  -- none of 27 to 33 applies to it
   pub passes : Passes (pairs (bytesOf f v))
+  -- it has a stored pair: 23 lets no voice of 0 bytes pass
   pub stored : 1 < length (bytesOf f v)
+  -- 22 lets no longer file pass
   pub short : length f ≤ 65536
   pub low : v .offset ≤ 65536
+  -- its events and pairs walked are those of the definitions
   pub events : v .events ≡ eventsOf (pairs (bytesOf f v))
   pub walked : v .walked ≡ walkedOf (pairs (bytesOf f v))
