@@ -114,6 +114,7 @@ module _ (f : List ℕ) where
         let p1 = both (fits 0) (fits 1) (p2 .0) in
         (p1 .0, p1 .1, p2 .1, p3 .1, p4 .1, p5 .1)
 
+    -- A text that fits is its five lines, each closed by $0D, then one $00.
     pub text-split : textFits f at ≡ true
         → drop at f ≡ textForm (line f at 0) (line f at 1) (line f at 2) (line f at 3) (line f at 4) (drop (textEnd f at) f)
     text-split e =
@@ -125,6 +126,7 @@ module _ (f : List ℕ) where
         ∙ ap (closedLine (line f at 3)) (line-split (lineStart f at 4) (p .4)
         ∙ ap (closedLine (line f at 4)) (zero-split (lineStart f at 5) (p .5))))))
 
+    -- Its lines have 0 to 32 bytes, and none of these is $0D or $00.
     pub lines-good : textFits f at ≡ true → GoodLines (line f at 0) (line f at 1) (line f at 2) (line f at 3) (line f at 4)
     lines-good e =
         let p = five-fit e in (
@@ -135,6 +137,7 @@ module _ (f : List ℕ) where
           line-good (lineStart f at 4) (p .4),
         )
 
+    -- A file that goes on with five good lines, each closed by $0D, and one $00 has a text that fits.
     pub text-join : (l1 l2 l3 l4 l5 rest : List ℕ) → GoodLines l1 l2 l3 l4 l5 → drop at f ≡ textForm l1 l2 l3 l4 l5 rest
         → (textFits f at ≡ true) × (drop (textEnd f at) f ≡ rest)
     text-join l1 l2 l3 l4 l5 rest g e =
