@@ -1,9 +1,8 @@
--- Laws of a file's outcome and of its text; when a file is accepted is in Acceptance.antt.
+-- Laws of a file's outcome; when a file is accepted is in Acceptance.antt.
 -- song-once                    no two answers have the same outcome
 -- head-refused                 21 to 24 come first
 -- long-refused, song-cut-off   a file of more than 65,536 bytes is 22, and so is what is left of it that is
 --                              as long
--- line-text                    a line of an accepted file is the paper's line
 use Prim.Native.Nat.{ℕ, _<_}
 use mathlib.Core.Path.{_≡_, sym, ap, _∙_}
 use mathlib.Core.List.{List}
@@ -11,15 +10,12 @@ use native.Mathlib.Omega.{arith}
 use lib.ListN.{length, take, length-take}
 use Rattle.refusals.specs.Numbers.Outcome.{accepted, refused}
 use Rattle.refusals.specs.Laws.{two-ways, refused-once}
-use Rattle.container.specs.Head.{headOf, voicesEnd, headOutcome}
-use Rattle.container.specs.Text.{line}
-use Rattle.container.specs.Laws.{lines-part, head-first, long-head}
+use Rattle.container.specs.Head.{headOutcome}
+use Rattle.container.specs.Laws.{head-first, long-head}
 use Rattle.mus.specs.declared.Song.{Song}
 use Rattle.mus.specs.declared.Reading.{Reading}
 use Rattle.mus.specs.declared.Reading.the-variants.{Accepted, Refused}
 use Rattle.mus.specs.Song.{musOutcome, outcomeOfSong}
-use Rattle.mus.specs.Text.{textLine}
-use Rattle.mus.specs.Acceptance.{songOf, accepted-clear}
 
 -- no two answers have the same outcome
 pub song-once : (a b : Reading) → outcomeOfSong a ≡ outcomeOfSong b → a ≡ b
@@ -40,15 +36,3 @@ long-refused f h = head-refused f 22 0 (long-head f h)
 -- what is left of such a file after more than 65,536 bytes are read has its outcome
 pub song-cut-off : (f : List ℕ) (n : ℕ) → 65536 < length f → 65536 < n → musOutcome (take n f) ≡ musOutcome f
 song-cut-off f n h g = long-refused (take n f) (omega (arith, length-take n f)) ∙ sym (long-refused f h)
-
-pub line-text : (f : List ℕ) (s : Song) → musOutcome f ≡ accepted s
-    → (textLine f 1 ≡ line f (voicesEnd (headOf f)) 0)
-    × (textLine f 2 ≡ line f (voicesEnd (headOf f)) 1)
-    × (textLine f 3 ≡ line f (voicesEnd (headOf f)) 2)
-    × (textLine f 4 ≡ line f (voicesEnd (headOf f)) 3)
-    × (textLine f 5 ≡ line f (voicesEnd (headOf f)) 4)
-unfolding textLine songOf
-line-text f s e =
-    let song : musOutcome f ≡ accepted (songOf f) = e ∙ ap accepted (sym (accepted-clear f s e .1)) in
-    let parts = lines-part f in
-    (rw song (parts .0), rw song (parts .1), rw song (parts .2), rw song (parts .3), rw song (parts .4))

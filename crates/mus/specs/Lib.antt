@@ -7,5 +7,6 @@ pub mod Laws
 pub mod Bounds
 pub mod AskedLaws
 pub mod AcceptedVoice
+pub mod TextLaws
 pub mod ByNumber
 pub mod Example

@@ -4,7 +4,7 @@ ghost use mathlib.Core.Path.{_≡_};
 ghost use Rattle.mus.specs.Song.{musOutcome, outcomeOfSong};
 ghost use Rattle.mus.specs.Voices.{outcomeOfVoice};
 ghost use Rattle.mus.specs.Asked.{voiceAsked};
-ghost use Rattle.mus.specs.Text.{textLine};
+ghost use Rattle.mus.specs.Text.{lineAsked, outcomeOfLine};
 use container::Container;
 use fields::Span;
 use refusals::Refusal;
@@ -45,6 +45,14 @@ pub enum VoiceAnswer {
     Refused(Refusal),
 }
 
+// The answer to a text line: where it lies, without the $0D that closes it; that there is no line of that
+// number; or the file's refusal.
+pub enum LineAnswer {
+    At(Span),
+    NoSuchLine,
+    Refused(Refusal),
+}
+
 // Accepts a file, or gives the first refusal that applies: 21 to 26, then voice 1, 2 and 3, each 27 to 33.
 pub fn accept(file: &[u8]) -> Reading
     ensures { λ r. ⌜ outcomeOfSong r ≡ musOutcome (now (file .entry)) ⌝ }
@@ -69,17 +77,13 @@ pub fn read_voice(file: &[u8], number: u32) -> VoiceAnswer
     }
 }
 
-// A text line of an accepted file by its number, 1 to 5; of a refused file, and for any other number,
-// nothing.
-pub fn text_line(file: &[u8], number: u64) -> &[u8]
-    ensures { λ r. ⌜ now r ≡ textLine (now (file .entry)) number ⌝ }
+// A text line of an accepted file by its number, 1 to 5: where it lies in the file. Refused with the file's
+// own refusal, else for any other number there is no such line.
+pub fn text_line(file: &[u8], number: u64) -> LineAnswer
+    ensures { λ r. ⌜ outcomeOfLine r ≡ lineAsked (now (file .entry)) number ⌝ }
 {
-    let answer = accept(file);
-    match answer {
-        Reading::Refused(_) => fields::part(file, 0, 0),
-        Reading::Accepted(song) => {
-            let span = voices::line_span(song, number);
-            fields::span_part(file, span)
-        }
+    match accept(file) {
+        Reading::Refused(x) => LineAnswer::Refused(x),
+        Reading::Accepted(song) => voices::line_of(song, number),
     }
 }

@@ -1,7 +1,7 @@
 // The voices of a file whose container is right.
 ghost use mathlib.Core.Path.{_≡_};
 ghost use Prim.Native.Nat.{_+_, _*_, _≤_};
-ghost use Rattle.refusals.specs.Numbers.Outcome.{refused};
+ghost use Rattle.refusals.specs.Numbers.Outcome.{accepted, refused};
 ghost use lib.ListN.{length};
 ghost use Rattle.bodies.specs.Voice.{pairs};
 ghost use Rattle.bodies.specs.Order as order;
@@ -10,7 +10,8 @@ ghost use Rattle.mus.specs.Voices.{limited, voiceOutcome, outcomeOfVoice
 ghost use Rattle.mus.specs.Song.{voiceIn, songWith, songIn, outcomeOfSong};
 ghost use Rattle.mus.specs.Bounds.{InFile};
 ghost use Rattle.mus.specs.Asked.{songVoice};
-ghost use Rattle.mus.specs.Text.{lineSpan};
+ghost use Rattle.mus.specs.Text.{songLine, outcomeOfLine};
+use crate::LineAnswer;
 use crate::Reading;
 use crate::Song;
 use crate::Voice;
@@ -127,23 +128,28 @@ pub fn voice_of(song: Song, n: u32) -> Voice
 }
 
 // internal: where a line lies, by its number from 1 to 5.
-pub fn line_span(song: Song, number: u64) -> Span
-    ensures { λ r. ⌜ r ≡ lineSpan song number ⌝ }
+pub fn line_of(song: Song, number: u64) -> LineAnswer
+    ensures { λ r. ⌜ outcomeOfLine r ≡ accepted (songLine song number) ⌝ }
 {
     if number == 1 {
-        return song.line1;
+        let line = song.line1;
+        return LineAnswer::At(line);
     }
     if number == 2 {
-        return song.line2;
+        let line = song.line2;
+        return LineAnswer::At(line);
     }
     if number == 3 {
-        return song.line3;
+        let line = song.line3;
+        return LineAnswer::At(line);
     }
     if number == 4 {
-        return song.line4;
+        let line = song.line4;
+        return LineAnswer::At(line);
     }
     if number == 5 {
-        return song.line5;
+        let line = song.line5;
+        return LineAnswer::At(line);
     }
-    Span { from: 0, len: 0 }
+    LineAnswer::NoSuchLine
 }

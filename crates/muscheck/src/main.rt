@@ -1,5 +1,6 @@
 // Shows a Sidplayer MUS file on standard input as accepted, with its load address, voices and text lines, or
 // the refusal's number and place.
+use fields::Span;
 use libc::STDIN_FILENO;
 use mus::Reading;
 use mus::Song;
@@ -27,18 +28,18 @@ fn show_song(song: Song) {
 }
 
 // A line of a text line, as its bytes are.
-fn text_line(file: &[u8], line: u64) {
+fn text_line(file: &[u8], line: Span) {
     write(b"text ");
-    write(mus::text_line(file, line));
+    write(fields::span_part(file, line));
     write(b"\n");
 }
 
-fn show_text(file: &[u8]) {
-    text_line(file, 1);
-    text_line(file, 2);
-    text_line(file, 3);
-    text_line(file, 4);
-    text_line(file, 5);
+fn show_text(file: &[u8], song: Song) {
+    text_line(file, song.line1);
+    text_line(file, song.line2);
+    text_line(file, song.line3);
+    text_line(file, song.line4);
+    text_line(file, song.line5);
 }
 
 fn refuse(x: Refusal) {
@@ -55,7 +56,7 @@ fn main() {
     match answer {
         Reading::Accepted(song) => {
             show_song(song);
-            show_text(&file[..n]);
+            show_text(&file[..n], song);
         }
         Reading::Refused(x) => refuse(x),
     }

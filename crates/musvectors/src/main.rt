@@ -2,6 +2,7 @@
 // tools/musvectors makes the files and says what each must give.
 use fields::Span;
 use files::Loaded;
+use mus::LineAnswer;
 use mus::Reading;
 use mus::Song;
 use mus::Voice;
@@ -47,10 +48,16 @@ fn show_reading(answer: Reading) {
     }
 }
 
-// A text line in brackets.
+// A text line in brackets, which hold nothing where there is no such line and where the file is refused.
 fn show_text(file: &[u8], number: u64) {
     write(b"[");
-    write(mus::text_line(file, number));
+    match mus::text_line(file, number) {
+        LineAnswer::At(span) => {
+            write(fields::span_part(file, span));
+        }
+        LineAnswer::NoSuchLine => {}
+        LineAnswer::Refused(_) => {}
+    }
     write(b"]");
 }
 

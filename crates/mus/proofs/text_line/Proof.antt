@@ -1,23 +1,26 @@
--- `mus::text_line` meets its contract.
+-- `mus::text_line` meets its contract: the file's refusal, or the line of its song.
 use borrow.Author.Needs.{needs}
-use mathlib.Core.Path.{sym, ap, _∙_}
-use Rattle.fields.specs.Parts.{partOf}
+use Prim.Native.Nat.{ℕ}
+use mathlib.Core.Path.{_≡_, sym, ap, _∙_}
+use mathlib.Core.List.{List}
 use Rattle.refusals.specs.Numbers.{Outcome}
+use Rattle.refusals.specs.Numbers.Outcome.{accepted}
+use Rattle.refusals.specs.Tests.{andThen}
 use Rattle.mus.specs.declared.Song.{Song}
-use Rattle.mus.specs.Song.{outcomeOfSong}
-use Rattle.mus.specs.Text.{lineIn, textLine}
+use Rattle.mus.specs.Song.{musOutcome, outcomeOfSong}
+use Rattle.mus.specs.Text.{songLine, lineAsked}
 use Rattle.mus.proofs.text_line.Statement.{statement}
 use Rattle.mus.proofs.text_line.Tie as tie
 
+line-answered : (f : List ℕ) (n : ℕ) (o : Outcome Song) → o ≡ musOutcome f → andThen o (λ s. accepted (songLine s n)) ≡ lineAsked f n
+unfolding lineAsked
+line-answered f n o e = rw e
+
 returns : tie.Need-returns
-unfolding textLine
-returns c = c .part .ensures ∙ ap (λ (o : Outcome Song). lineIn (c .before .before .before .before .before .args .file .now) o (c .before .before .before .before .before .args .number)) (ap outcomeOfSong (sym (c .before .enum-told .given .1)) ∙ c .before .before .before .accept .ensures)
+returns c = line-answered _ _ _ (ap outcomeOfSong (sym (c .before .x .given .1)) ∙ c .before .before .before .accept .ensures)
 
 returns-2 : tie.Need-returns-2
-unfolding textLine
-returns-2 c =
-    let start = c .before .before .before .before .before .before .before in
-    c .span-part .ensures ∙ ap (partOf (start .args .file .now)) (c .before .line-span .ensures) ∙ ap (λ (o : Outcome Song). lineIn (start .args .file .now) o (start .args .number)) (ap outcomeOfSong (sym (c .before .before .before .answer .given .1)) ∙ c .before .before .before .before .before .accept .ensures)
+returns-2 c = c .line-of .ensures ∙ line-answered _ _ _ (ap outcomeOfSong (sym (c .before .before .song .given .1)) ∙ c .before .before .before .before .accept .ensures)
 
 pub text-line-spec : {M : Type 1} → statement M
 text-line-spec =
@@ -25,9 +28,7 @@ text-line-spec =
     (tie.spec
     (λ c κs. search needs)
     (λ c. search needs)
-    (λ c κs. search needs)
     (λ c. search needs)
-    (λ c κs. search needs)
     (λ c κs. search needs)
     returns
     returns-2)

@@ -1,10 +1,10 @@
--- `mus::voices::line_span` meets its contract.
+-- `mus::voices::line_of` meets its contract.
 use borrow.Author.Tests.{eq-eqb, ne-eqb}
-use Rattle.mus.proofs.voices.line_span.Statement.{statement}
-use Rattle.mus.proofs.voices.line_span.Tie as tie
+use Rattle.mus.proofs.voices.line_of.Statement.{statement}
+use Rattle.mus.proofs.voices.line_of.Tie as tie
 
-pub line-span-spec : {M : Type 1} → statement M
-line-span-spec =
+pub line-of-spec : {M : Type 1} → statement M
+line-of-spec =
     tie.close
     (tie.spec
     (λ c. rw (eq-eqb _ 1 (c .before .if1 .taken)))
