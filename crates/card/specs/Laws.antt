@@ -1,10 +1,12 @@
 -- Every file that a reader accepts is judged so: no tune and no song is lost by the way its kind is found.
+-- And no two answers have the same judgement.
 -- tune-judged   a file that is accepted as PSID or RSID
 -- song-judged   a file that is accepted as MUS: begun with PSID or RSID, the length of its first voice would
 --               be odd (23)
+-- judged-once   two answers of one judgement are one answer
 -- byHead, by-head, by-outcomes   the same by the tests 21 to 24 alone (`headOutcome`), as the code goes
 use Prim.Native.Nat.{ℕ, _+_, _*_, _<_, _%_}
-use mathlib.Core.Path.{_≡_, refl, sym, subst}
+use mathlib.Core.Path.{_≡_, refl, sym, ap, _∙_, subst}
 use mathlib.Core.Bool.{false≢true}
 use mathlib.Core.List.{List}
 use native.Mathlib.Omega.{arith}
@@ -30,9 +32,12 @@ use Rattle.mus.specs.Song.{musOutcome}
 use Rattle.mus.specs.Acceptance.{accepted-clear}
 use Rattle.mus.specs.Laws.{head-refused}
 use Rattle.mus.specs.ByNumber.{Above, head-above}
+use Rattle.card.specs.declared.Judged.{Judged}
+use Rattle.card.specs.declared.Judged.the-variants as answer
 use Rattle.card.specs.Judging as judging
-use Rattle.card.specs.Judging.{Judgement, asSong, judged}
+use Rattle.card.specs.Judging.{Judgement, judgementOf, asSong, judged}
 
+-- A file that is accepted as PSID or RSID is judged a tune, with its header.
 pub tune-judged : (f : List ℕ) (h : Header) → sidOutcome f ≡ accepted h → judged f ≡ judging.Judgement.tune h
 unfolding sidTests fieldsOf
 tune-judged f h e =
@@ -72,14 +77,35 @@ module _ (f : List ℕ) (s : Song) (e : musOutcome f ≡ accepted s) (low : getD
   unfolding be32 be16
   no-rsid q = no-letters (low-half (getD f 0 0 * 256 + getD f 1 0) (getD f 2 0 * 256 + getD f 3 0) 0x5253 0x4944 (omega (arith, low, high)) (lit< tt) q)
 
+  -- A file that is accepted as MUS is judged a song, with what it says of itself.
   pub song-judged : judged f ≡ judging.Judgement.song s
   song-judged = rw (ne-eqb (be32 f 0) psid no-psid, ne-eqb (be32 f 0) rsid no-rsid, e)
+
+-- the answer that a judgement is of
+abbrev answerOf : Judgement → Judged
+answerOf (judging.Judgement.tune h) = answer.Tune h
+answerOf (judging.Judgement.refusedTune k n p) = answer.RefusedTune k (record { number = n; place = p })
+answerOf (judging.Judgement.song s) = answer.Song s
+answerOf (judging.Judgement.refusedSong n p) = answer.RefusedSong (record { number = n; place = p })
+answerOf (judging.Judgement.neither n p) = answer.Neither (record { number = n; place = p })
+
+answer-back : (a : Judged) → answerOf (judgementOf a) ≡ a
+answer-back (answer.Tune h) = refl
+answer-back (answer.RefusedTune k x) = refl
+answer-back (answer.Song s) = refl
+answer-back (answer.RefusedSong x) = refl
+answer-back (answer.Neither x) = refl
+
+-- Two answers that have one judgement are one answer.
+pub judged-once : (a b : Judged) → judgementOf a ≡ judgementOf b → a ≡ b
+judged-once a b e = sym (answer-back a) ∙ ap answerOf e ∙ answer-back b
 
 abbrev pub byHead : Outcome Voices → Outcome Song → Judgement
 byHead (refused number place) o = judging.Judgement.neither number place
 byHead (accepted v) (accepted s) = judging.Judgement.song s
 byHead (accepted v) (refused number place) = judging.Judgement.refusedSong number place
 
+-- The head's refusal, and else the reader's outcome, is the judgement of a file that is no tune.
 pub by-head : (f : List ℕ) → byHead (headOutcome f) (musOutcome f) ≡ asSong (musOutcome f)
 by-head f = go (headOutcome f) refl
   where
@@ -91,6 +117,6 @@ by-head f = go (headOutcome f) refl
     go (accepted v) e = above v (musOutcome f) (head-above f v e)
     go (refused n p) e = rw (head-refused f n p e, le-leb n 24 (head-number f n p e))
 
--- so for what the code has asked for
+-- So for what the code has asked for.
 pub by-outcomes : (f : List ℕ) {h : Outcome Voices} {o : Outcome Song} → h ≡ headOutcome f → o ≡ musOutcome f → byHead h o ≡ asSong (musOutcome f)
 by-outcomes f eh eo = rw (eh, eo) (by-head f)
