@@ -43,14 +43,15 @@ use Rattle.events.specs.declared.Listed.{Listed}
 use Rattle.events.specs.declared.Listed.the-variants.{Count, Refused}
 use Rattle.events.specs.Listing.{callerTests, playedIn, countOf, windowIn, filledBy, listing, outcomeOfListed}
 
--- 'An answer may be an enum. In that case, a definition gives this paper's number and values for each of the
--- enum's cases'
+-- Two answers that have one outcome are one answer.
 pub listed-once : (a b : Listed) → outcomeOfListed a ≡ outcomeOfListed b → a ≡ b
 listed-once (Count m) (Count n) e = let same : m ≡ n = cc in rw same
 listed-once (Count m) (Refused y) e = absurd (two-ways (sym e))
 listed-once (Refused x) (Count n) e = absurd (two-ways e)
 listed-once (Refused x) (Refused y) e = ap Refused (refused-once {X = ℕ} x y e)
 
+-- What an answer with a count says: the file is accepted, the voice is one of its three, the lists are of one
+-- length, and the call leaves what the window of that voice is.
 pub record Answered (f : List ℕ) (voice first : ℕ) (os js : List ℕ) : Type 0 where
   pub song : Song
   pub file : musOutcome f ≡ accepted song
@@ -59,22 +60,23 @@ pub record Answered (f : List ℕ) (voice first : ℕ) (os js : List ℕ) : Type
   pub window : listing f voice first os js ≡ windowIn f (songVoice song voice) first os js
 
 module _ (f : List ℕ) (voice first : ℕ) (os js : List ℕ) where
-  -- '41 voice not 1 to 3', before all else
+  -- A voice that is not 1 to 3 is 41, before all else.
   pub voice-first : ltb voice 1 || ltb 3 voice ≡ true → listing f voice first os js .answer ≡ refused 41 0
   unfolding listing
   voice-first e = rw e
 
-  -- '42 two lists of unequal length'
+  -- For one of these voices two lists of unequal length are 42, whatever the file.
   pub lengths-next : ltb voice 1 || ltb 3 voice ≡ false → (length os ≡ length js → ⊥) → listing f voice first os js .answer ≡ refused 42 0
   unfolding listing
   lengths-next e n = rw (e, ne-eqb (length os) (length js) n)
 
-  -- '40, 41 and 42 are tested before the file, in that order'
+  -- With both in order the call goes by the file: its own refusal, or its voice ('40, 41 and 42 are tested
+  -- before the file, in that order').
   pub file-last : ltb voice 1 || ltb 3 voice ≡ false → length os ≡ length js → listing f voice first os js ≡ filledBy f first os js (andThen (musOutcome f) (λ s. accepted (songVoice s voice)))
   unfolding listing
   file-last e same = rw (e, eq-eqb (length os) (length js) same, file-next f voice e)
 
-  -- 'A refusal .. changes no lent memory'
+  -- A refusal leaves both lists as they were ('A refusal .. changes no lent memory').
   pub refused-unchanged : {number place : ℕ} → listing f voice first os js .answer ≡ refused number place → (listing f voice first os js .offsets ≡ os) × (listing f voice first os js .jiffies ≡ js)
   unfolding listing
   refused-unchanged {number} {place} e = go (guarded (firstOf (callerTests voice (length os) (length js))) (voiceAsked f voice)) e
@@ -83,7 +85,7 @@ module _ (f : List ℕ) (voice first : ℕ) (os js : List ℕ) where
       go (accepted v) q = absurd (two-ways (sym q))
       go (refused n p) q = (refl, refl)
 
-  -- 'it returns how many'
+  -- A call that answers a count has listed the voice asked for, of an accepted file.
   pub accepted-window : {n : ℕ} → listing f voice first os js .answer ≡ accepted n → Answered f voice first os js
   unfolding listing
   accepted-window {n} e = go (guarded (firstOf (callerTests voice (length os) (length js))) (voiceAsked f voice)) refl e
@@ -108,6 +110,7 @@ countIn f v first cells = countOf (length cells) first (playedIn f v)
 abbrev pub numbersOf : List Event → List ℕ
 numbersOf es = map (λ (e : Event). e .number) es
 
+-- as many offsets and as many jiffies as events
 length-offsets : (base : ℕ) (es : List Event) → length (offsetsOf base es) ≡ length es
 unfolding offsetsOf
 length-offsets base es = length-map es (λ (e : Event). base + 2 * e .number)
@@ -116,6 +119,7 @@ length-listed : (es : List Event) → length (jiffiesOf es) ≡ length es
 unfolding jiffiesOf
 length-listed es = length-jiffies (meanings es) ∙ length-map es (λ (e : Event). e .meaning)
 
+-- the offset and the jiffy of event k
 offset-at : (base : ℕ) (es : List Event) (k : ℕ) → k < length es → getD (offsetsOf base es) k 0 ≡ base + 2 * getD (numbersOf es) k 0
 unfolding offsetsOf
 offset-at base [] k h = absurd (not-suc-le-zero h)
@@ -127,22 +131,22 @@ unfolding jiffiesOf
 jiffy-at es k h = jiffies-at (meanings es) k (omega (arith, length-map es (λ (e : Event). e .meaning)))
 
 module _ (f : List ℕ) (v : Voice) (first : ℕ) (os js : List ℕ) where
-  -- 'cell i of the first list holds the offset .. of the event whose number is the first one asked for plus
-  -- i'
+  -- Cell i of the first list holds the file offset of the event whose number is the first one asked for plus
+  -- i, for each i below the count.
   pub cell-offset : (i : ℕ) → i < countIn f v first os → getD (windowIn f v first os js .offsets) i 0 ≡ v .offset + 2 * getD (numbersOf (playedIn f v)) (first + i) 0
   cell-offset i h =
       let es = playedIn f v in
       filled-at first (countIn f v first os) (offsetsOf (v .offset) es) os (omega (arith, length-offsets (v .offset) es)) i 0 h
       ∙ offset-at (v .offset) es (first + i) (omega arith)
 
-  -- 'cell i of the second the jiffy'
+  -- Cell i of the second list holds that event's jiffy.
   pub cell-jiffy : (i : ℕ) → i < countIn f v first os → getD (windowIn f v first os js .jiffies) i 0 ≡ jiffyOf (meanings (playedIn f v)) (first + i)
   cell-jiffy i h =
       let es = playedIn f v in
       filled-at first (countIn f v first os) (jiffiesOf es) js (omega (arith, length-listed es)) i 0 h
       ∙ jiffy-at es (first + i) (omega arith)
 
-  -- 'what lies beyond keeps its old content'
+  -- Every cell from the count on keeps its old content, in both lists.
   pub cell-beyond : (i : ℕ) → countIn f v first os ≤ i → (getD (windowIn f v first os js .offsets) i 0 ≡ getD os i 0) × (getD (windowIn f v first os js .jiffies) i 0 ≡ getD js i 0)
   cell-beyond i h =
       let es = playedIn f v in
@@ -151,7 +155,7 @@ module _ (f : List ℕ) (v : Voice) (first : ℕ) (os js : List ℕ) where
         filled-beyond first n (jiffiesOf es) js (omega (arith, length-listed es)) i 0 h,
       )
 
-  -- 'No call changes a lent cell that it doesn't fill'
+  -- Both lists keep their length.
   pub length-kept : length os ≡ length js → (length (windowIn f v first os js .offsets) ≡ length os) × (length (windowIn f v first os js .jiffies) ≡ length js)
   length-kept same =
       let es = playedIn f v in
@@ -160,11 +164,13 @@ module _ (f : List ℕ) (v : Voice) (first : ℕ) (os js : List ℕ) where
         filled-length first n (jiffiesOf es) js (omega (arith, length-listed es)) (omega arith),
       )
 
-  -- 'it returns how many, 0 past the end'
+  -- From an event number past the voice's end on nothing is listed: the count is 0 and both lists are as
+  -- before.
   pub past-the-end : length (playedIn f v) ≤ first → windowIn f v first os js ≡ record { answer = accepted 0; offsets = os; jiffies = js }
   past-the-end h = let none : countIn f v first os ≡ 0 = omega arith in rw none
 
-  -- 'the event whose number is the first one asked for plus i': a second window goes on where the first ends
+  -- Two calls, the second from the event where the first's cells end, leave together what one call with both
+  -- parts of the lists leaves, and their counts add up.
   pub two-windows : (a : ℕ) → a ≤ length os → length os ≡ length js
       → (windowIn f v first os js .offsets ≡ windowIn f v first (take a os) (take a js) .offsets ++ windowIn f v (first + a) (drop a os) (drop a js) .offsets)
       × (windowIn f v first os js .jiffies ≡ windowIn f v first (take a os) (take a js) .jiffies ++ windowIn f v (first + a) (drop a os) (drop a js) .jiffies)
@@ -183,12 +189,13 @@ module _ (f : List ℕ) (v : Voice) (first : ℕ) (os js : List ℕ) where
         sum,
       )
 
-  -- 'An event's exact time is the sum of the lengths of all events before it there'
+  -- The jiffies listed never fall from one cell to a later one.
   pub jiffies-never-fall : (i j : ℕ) → i ≤ j → j < countIn f v first os → getD (windowIn f v first os js .jiffies) i 0 ≤ getD (windowIn f v first os js .jiffies) j 0
   jiffies-never-fall i j h below =
       omega (arith, cell-jiffy i (omega arith), cell-jiffy j below, jiffies-rise (meanings (playedIn f v)) (first + i) (first + j) (omega arith))
 
--- 'Its jiffy is that sum in 384ths divided by 384, rounded down'
+-- Events of equal exact time share a jiffy, whichever voices and files they are of: voices that meet in time
+-- meet in the lists.
 pub meet-again : (f g : List ℕ) (v w : Voice) (first andThen : ℕ) (os js ps ks : List ℕ) (i j : ℕ) → i < countIn f v first os → j < countIn g w andThen ps
     → timeOf (meanings (playedIn f v)) (first + i) ≡ timeOf (meanings (playedIn g w)) (andThen + j)
     → getD (windowIn f v first os js .jiffies) i 0 ≡ getD (windowIn g w andThen ps ks .jiffies) j 0
