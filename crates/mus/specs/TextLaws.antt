@@ -48,7 +48,8 @@ module _ (f : List ℕ) (n : ℕ) where
   unfolding lineAsked
   line-refused number place e = rw e
 
-  -- The number is from 1 to 5, and the span's bytes are that line, counted from 1, of the text after the voices.
+  -- The number is from 1 to 5, and the span's bytes are the line with that number in the text that comes
+  -- after the voices.
   abbrev pub NamesLine : Span → Type 0
   NamesLine s = (1 ≤ n) × (n ≤ 5) × (partOf f s ≡ line f (voicesEnd (headOf f)) (n - 1))
 
