@@ -1,8 +1,9 @@
 -- What acceptance has shown of a voice and of a song, as specs/AcceptedVoice.antt states it.
--- accepted-sound   a voice to which none of 27 to 33 applies is one body, its DEFs and CALs in order, each
---                  opener closed by its own closer
--- accepted-voice   all that is stated of its stored pairs, where it has one
--- accepted-song    all that is stated of an accepted file
+-- accepted-sound     a voice to which none of 27 to 33 applies is one body, its DEFs and CALs in order, each
+--                    opener closed by its own closer
+-- accepted-voice     all that is stated of its stored pairs, where it has one
+-- accepted-song      all that is stated of an accepted file
+-- acceptance-shows   both
 use Prim.Native.Nat.{ℕ, _<_}
 use mathlib.Core.Path.{_≡_}
 use mathlib.Core.List.{List, [], _∷_}
@@ -28,7 +29,7 @@ use Rattle.mus.specs.Song.{musOutcome}
 use Rattle.mus.specs.Acceptance.{Passes}
 use Rattle.mus.specs.Bounds.{InSong}
 use Rattle.mus.specs.AskedLaws.{in-song}
-use Rattle.mus.specs.AcceptedVoice.{AcceptedVoice, ReportedVoice, AcceptedSong}
+use Rattle.mus.specs.AcceptedVoice.{AcceptedVoice, ReportedVoice, AcceptedSong, AcceptanceShows}
 
 pub accepted-sound : (v : List (Outcome Meaning)) → Passes v → Sound v
 accepted-sound v p = sound v (p .pairs) (p .structure)
@@ -65,3 +66,6 @@ accepted-song f s e =
       voice2 = reported f (s .voice2) (in-song f s 2 e);
       voice3 = reported f (s .voice3) (in-song f s 3 e);
     }
+
+pub acceptance-shows : AcceptanceShows
+acceptance-shows = record { voice = accepted-voice; song = accepted-song }

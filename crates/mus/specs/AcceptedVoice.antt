@@ -1,14 +1,15 @@
--- What acceptance has shown of a voice and of a song. proofs/Accepted.antt proves it: `accepted-voice` for
--- each voice of at least one pair to which none of 27 to 33 applies, `accepted-song` for each accepted file.
--- AcceptedVoice   of a voice's stored pairs
--- ReportedVoice   of a voice as it is reported
--- AcceptedSong    of the three voices of a file
-use Prim.Native.Nat.{ℕ, _≤_}
+-- What acceptance has shown of a voice and of a song (`AcceptanceShows`, which proofs/Accepted.antt proves).
+-- AcceptedVoice     of a voice's stored pairs
+-- ReportedVoice     of a voice as it is reported
+-- AcceptedSong      of the three voices of a file
+-- AcceptanceShows   of which voices and files it holds
+use Prim.Native.Nat.{ℕ, _<_, _≤_}
 use mathlib.Core.Path.{_≡_}
 use mathlib.Core.List.{List}
 use lib.ListN.{length}
 use Rattle.meaning.specs.declared.Meaning.{Meaning}
 use Rattle.refusals.specs.Numbers.{Outcome}
+use Rattle.refusals.specs.Numbers.Outcome.{accepted}
 use Rattle.bodies.specs.Voice.{pairs}
 use Rattle.bodies.specs.Bodies.{bodyOf, pieces, writtenOut}
 use Rattle.bodies.specs.Playing.{Interpretation, phrasesOf, played, eventsOf, walkedOf, depthOf}
@@ -16,7 +17,9 @@ use Rattle.bodies.specs.Order.{Called}
 use Rattle.bodies.specs.Faithful.{OnlyEvents, TheOne, AllMean, EndsInHlt}
 use Rattle.mus.specs.declared.Voice.{Voice}
 use Rattle.mus.specs.declared.Song.{Song}
+use Rattle.mus.specs.Song.{musOutcome}
 use Rattle.mus.specs.Asked.{bytesOf}
+use Rattle.mus.specs.Acceptance.{Passes}
 
 pub record AcceptedVoice (v : List (Outcome Meaning)) : Type 1 where
   -- every stored pair means something: none is unassigned or out of its range
@@ -53,3 +56,9 @@ pub record AcceptedSong (f : List ℕ) (s : Song) : Type 1 where
   pub voice1 : ReportedVoice f (s .voice1)
   pub voice2 : ReportedVoice f (s .voice2)
   pub voice3 : ReportedVoice f (s .voice3)
+
+pub record AcceptanceShows : Type 1 where
+  -- of every voice with a stored pair, to which none of 27 to 33 applies
+  pub voice : (bs : List ℕ) → 1 < length bs → Passes (pairs bs) → AcceptedVoice (pairs bs)
+  -- of every file that is accepted
+  pub song : (f : List ℕ) (s : Song) → musOutcome f ≡ accepted s → AcceptedSong f s
