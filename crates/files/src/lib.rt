@@ -1,8 +1,7 @@
 // A file by its name, whole or its first bytes, for programs.
 ghost use mathlib.Core.Path.{_≡_};
-ghost use Prim.Native.Nat.{_≤_, min};
-ghost use lib.ListN.{length};
-ghost use Rattle.files.specs.Reading.{Within};
+ghost use Prim.Native.Nat.{min};
+ghost use Rattle.files.specs.Reading.{ReadInto};
 
 // How many bytes were read; or the machine's error number, where the file was not opened, and where it was
 // opened and not read.
@@ -18,13 +17,15 @@ fn lesser(a: usize, b: usize) -> usize
     if a < b { a } else { b }
 }
 
-// The rest of a file that is open, after the bytes that were read, until it ends or the list is full.
-fn read_rest(fd: i32, out: &mut [u8], from: usize) -> Loaded
-    requires { ⌜ from ≤ length (now out) ⌝ }
-    ensures { λ r. ⌜ Within r (now (out .exit)) ⌝ }
+// A file that is open, from its start, until it ends or the list is full. The raw call tells an end from an
+// error, which io::read_full does not. It is lent a list of its own: what it does to the cells after those
+// that it counts, nobody says. That list has no multiple of 4,096 bytes: where both lists lie at such a
+// distance, copying takes several times as long.
+fn read_open(fd: i32, out: &mut [u8]) -> Loaded
+    ensures { λ r. ⌜ ReadInto r (now (out .entry)) (now (out .exit)) ⌝ }
 {
-    let mut done = from;
-    let mut chunk = [0u8; 4096];
+    let mut done = 0;
+    let mut chunk = [0u8; 20000];
     while done < out.len() {
         let got = libc::read(fd, &mut chunk);
         if got < 0 {
@@ -42,24 +43,10 @@ fn read_rest(fd: i32, out: &mut [u8], from: usize) -> Loaded
     Loaded::Bytes(done)
 }
 
-// A file that is open. The raw call tells an end from an error, which io::read_full does not.
-fn read_open(fd: i32, out: &mut [u8]) -> Loaded
-    ensures { λ r. ⌜ Within r (now (out .exit)) ⌝ }
-{
-    let got = libc::read(fd, out);
-    if got < 0 {
-        return Loaded::NotRead(os::errno());
-    }
-    let n = io::count(got, out);
-    if n == 0 {
-        return Loaded::Bytes(0);
-    }
-    read_rest(fd, out, n)
-}
-
-// internal: reads the file that the path names, from its start, until it ends or the list is full.
+// internal: reads the file that the path names, from its start, until it ends or the list is full. The cells
+// after the bytes that are counted stay as they were, and all of them where the file is not opened.
 pub fn read_file(path: &[u8], out: &mut [u8]) -> Loaded
-    ensures { λ r. ⌜ Within r (now (out .exit)) ⌝ }
+    ensures { λ r. ⌜ ReadInto r (now (out .entry)) (now (out .exit)) ⌝ }
 {
     let fd = os::open_read(path);
     if fd < 0 {
