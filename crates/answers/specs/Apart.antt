@@ -39,9 +39,11 @@ abbrev pub LowPlace : {A : Type 0} → Outcome A → Type 0
 LowPlace (accepted a) = Unit
 LowPlace (refused number place) = (0 < number) × (place ≤ 65536)
 
+-- Where a number is above 0 and a place at most 65,536, as LowPlace says, the place is below 2^32.
 pub low-fits : {n p : ℕ} → (0 < n) × (p ≤ 65536) → p < 0x100000000
 low-fits h = omega arith
 
+-- A place that is 0 is below 2^32.
 pub unplaced-fits : {p : ℕ} → p ≡ 0 → p < 0x100000000
 unplaced-fits e = omega arith
 
@@ -54,15 +56,17 @@ module _ {A : Type 0} (value : A → ℕ) where
   pub refusal-apart : (number place : ℕ) → Apart value (refused number place) → (upperHalf (packed value (refused number place)) ≡ number) × (lowerHalf (packed value (refused number place)) ≡ place)
   refusal-apart number place h = (omega arith, omega arith)
 
-  -- Where the upper half is 0 the call has accepted.
+  -- Where value and refusal are apart and the upper half is 0, the outcome is a value.
   pub zero-valued : (o : Outcome A) → Apart value o → upperHalf (packed value o) ≡ 0 → Valued o
   zero-valued (accepted a) h e = record { value = a; is = refl }
   zero-valued (refused number place) h e = absurd (omega (arith, h .0, e, refusal-apart number place h .0))
 
+  -- Where an accepted value is below 2^32 and a refusal is as LowPlace says, the outcome is Apart.
   pub low-apart : (o : Outcome A) → ((a : A) → o ≡ accepted a → value a < 0x100000000) → LowPlace o → Apart value o
   low-apart (accepted a) h l = h a refl
   low-apart (refused number place) h l = (l .0, omega arith)
 
+-- Where an outcome is as LowPlace says, so is the outcome with tests made before it.
 pub tests-low : {A : Type 0} (ts : List Test) (o : Outcome A) → LowPlace o → LowPlace (guarded (firstOf ts) o)
 tests-low ts o h = go (firstOf ts) refl
   where

@@ -24,12 +24,13 @@ abbrev pub reel : List ℕ
 reel =
     0x10 ∷ 0x94 ∷ 0x01 ∷ 0x16 ∷ 0x10 ∷ 0x99 ∷ 0x10 ∷ 0x9A ∷ 0x01 ∷ 0x2F ∷ 0x36 ∷ 0x02 ∷ 0x01 ∷ 0x12 ∷ 0x14 ∷ 0x9B ∷ 0x01 ∷ 0x0F ∷ 0x01 ∷ 0x4F ∷ []
 
--- document 01's own voice: TEM, the note three times, HLT
+-- Document 01's own voice plays TEM, the note three times and HLT: 5 events, 9 pairs walked, depth 1.
 pub bench-played : (eventNumbers (played (pairs bench)) ≡ 0 ∷ 2 ∷ 2 ∷ 2 ∷ 4 ∷ []) × (eventsOf (pairs bench) ≡ 5) × (walkedOf (pairs bench) ≡ 9) × (depthOf (pairs bench) ≡ 1)
 unfolding pairs inner outer withPair bodies bodyOf interpret phrases copies played eventsOf walkedOf depthOf
 bench-played = (refl, refl, refl, refl)
 
--- a phrase defined, and called in a repeat
+-- A voice with a phrase that is defined, and then called in a repeat, plays these 10 events, walks 19 pairs
+-- and has depth 2.
 pub reel-played : (eventNumbers (played (pairs reel)) ≡ 0 ∷ 2 ∷ 3 ∷ 2 ∷ 3 ∷ 7 ∷ 2 ∷ 3 ∷ 7 ∷ 9 ∷ [])
     × (eventsOf (pairs reel) ≡ 10)
     × (walkedOf (pairs reel) ≡ 19)

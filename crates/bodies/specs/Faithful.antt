@@ -1,7 +1,8 @@
 -- Document 01, 'Playing a voice': what makes bodies and the played-out voice those of the stored pairs.
 -- Acceptance shows all of it of each voice (`AcceptedVoice` of crates/mus/specs/AcceptedVoice.antt).
 -- IsEvent, OnlyEvents   'Events are all pairs but HED, TAL, DEF, END, CAL': a kind, and all events of a body
--- TheOne                a body has one DEF of a number, and the number stands for what is made of its body
+-- TheOne                a body has one DEF of a number, and the number stands for what is made of that
+--                       DEF's body
 -- AllMean               each pair means something
 -- NoHlt                 none of some events is HLT
 -- EndsInHlt             events end in HLT, the last of n stored pairs, and no other event is HLT
@@ -36,12 +37,12 @@ OnlyEvents (repeat n i r) = OnlyEvents i × OnlyEvents r
 OnlyEvents (phrase k i r) = OnlyEvents i × OnlyEvents r
 OnlyEvents (call k r) = OnlyEvents r
 
--- in b, where calls k is what number k stands for
+-- Of a body b; calls k is what number k stands for.
 pub record TheOne {A : Type 0} (m : Interpretation A) (calls : ℕ → A) (k : ℕ) (b : Body) : Type 0 where
   pub body : Body
-  -- it is the only body of a DEF k
+  -- It is the only body of a DEF k.
   pub only : definitions k b ≡ body ∷ []
-  -- number k stands for what is made of it
+  -- Number k stands for what is made of it.
   pub means : calls k ≡ interpret m calls body
 
 unfoldable pub AllMean : List (Outcome Meaning) → Type 0
@@ -56,11 +57,11 @@ NoHlt (e ∷ es) = (e .meaning ≡ accepted Meaning.Hlt → ⊥) × NoHlt es
 pub record EndsInHlt (es : List Event) (n : ℕ) : Type 0 where
   pub before : List Event
   pub last : Event
-  -- some events, and then one
+  -- The events are some events, and then one.
   pub split : es ≡ before ++ last ∷ []
-  -- that one is the last of n stored pairs
+  -- That one is the last of n stored pairs.
   pub number : last .number + 1 ≡ n
-  -- it is HLT
+  -- It is HLT.
   pub halts : last .meaning ≡ accepted Meaning.Hlt
-  -- and none before it is
+  -- None before it is HLT.
   pub only : NoHlt before

@@ -20,7 +20,7 @@ openAt v i = bodies i (drop i v)
 unfoldable pub bodyAt : List (Outcome Meaning) → ℕ → Body
 bodyAt v i = inner (openAt v i)
 
--- a pair that closes a body
+-- A pair that closes a body.
 pub record Closing (v : List (Outcome Meaning)) (i : ℕ) : Type 0 where
   pub closer : Closer
   pub closes : openAt v i ≡ done closer ∷ openAt v (i + 1)

@@ -77,7 +77,7 @@ module _ (f : List ℕ) (s : Song) (e : musOutcome f ≡ accepted s) (low : getD
   unfolding be32 be16
   no-rsid q = no-letters (low-half (getD f 0 0 * 256 + getD f 1 0) (getD f 2 0 * 256 + getD f 3 0) 0x5253 0x4944 (omega (arith, low, high)) (lit< tt) q)
 
-  -- A file that is accepted as MUS is judged a song, with what it says of itself.
+  -- A file accepted as MUS whose cells 2 and 3 are bytes is judged a song, with what it says of itself.
   pub song-judged : judged f ≡ judging.Judgement.song s
   song-judged = rw (ne-eqb (be32 f 0) psid no-psid, ne-eqb (be32 f 0) rsid no-rsid, e)
 

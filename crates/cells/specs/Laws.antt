@@ -14,18 +14,22 @@ use lib.Seq.{getD-append-add, getD-take, getD-drop, take-add, drop-drop, drop-ap
 use Rattle.cells.specs.Window.{window, filled}
 
 module _ {A : Type 0} (first n : ℕ) (xs cells : List A) (enough : n ≤ length xs - first) where
+  -- Where xs has n elements from `first` on, the window has n elements.
   pub window-length : length (window first n xs) ≡ n
   window-length = simp (length-take, length-drop) (omega arith)
 
+  -- Where xs has n elements from `first` on and there are at least n cells, the filled list keeps its length.
   pub filled-length : n ≤ length cells → length (filled first n xs cells) ≡ length cells
   filled-length room = simp (length-append, window-length, length-drop) (omega arith)
 
+  -- Where xs has n elements from `first` on, each cell i below n holds element `first` + i.
   pub filled-at : (i : ℕ) (d : A) → i < n → getD (filled first n xs cells) i d ≡ getD xs (first + i) d
   filled-at i d h =
       List·getD-append (window first n xs) (drop n cells) d i (omega (arith, window-length))
       ∙ getD-take n (drop first xs) i d h
       ∙ getD-drop first xs i d
 
+  -- Where xs has n elements from `first` on, each cell from n on keeps its old content.
   pub filled-beyond : (i : ℕ) (d : A) → n ≤ i → getD (filled first n xs cells) i d ≡ getD cells i d
   filled-beyond i d h =
       let w = window first n xs in
@@ -34,7 +38,7 @@ module _ {A : Type 0} (first n : ℕ) (xs cells : List A) (enough : n ≤ length
       ∙ getD-drop n cells (i - n) d
       ∙ ap (λ (k : ℕ). getD cells k d) (omega arith)
 
--- the first part is full, or the second empty
+-- A window in two parts is the window in one, where the first part is full or the second empty.
 pub filled-split : {A : Type 0} (first a n m k : ℕ) (xs cells : List A) → n ≡ m + k → m ≤ a → a ≤ length cells → (m ≡ a) ⊎ (k ≡ 0)
     → filled first n xs cells ≡ filled first m xs (take a cells) ++ filled (first + a) k xs (drop a cells)
 filled-split first a n m k xs cells en hm ha (inl e) =

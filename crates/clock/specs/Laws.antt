@@ -146,12 +146,12 @@ sums-rise xs (suc i) zero h = absurd (not-suc-le-zero h)
 sums-rise [] (suc i) (suc j) h = omega arith
 sums-rise (x ∷ xs) (suc i) (suc j) h = omega (arith, sums-rise xs i j (le-of-suc-le-suc h))
 
--- 'An event's exact time is the sum of the lengths of all events before it there'
+-- Jiffies never fall from one event to a later one.
 pub jiffies-rise : (ms : List (Outcome Meaning)) (i j : ℕ) → i ≤ j → jiffyOf ms i ≤ jiffyOf ms j
 unfolding jiffyOf timeOf
 jiffies-rise ms i j h = omega (arith, sums-rise (lengths atStart ms) i j h)
 
--- 'Its jiffy is that sum in 384ths divided by 384, rounded down'
+-- Events of equal exact time have one jiffy, whichever voices they are of.
 pub same-time : (ms ns : List (Outcome Meaning)) (i j : ℕ) → timeOf ms i ≡ timeOf ns j → jiffyOf ms i ≡ jiffyOf ns j
 unfolding jiffyOf
 same-time ms ns i j e = ap (λ (t : ℕ). t / 384) e

@@ -45,10 +45,12 @@ numbers-at f k zero i h = absurd (not-suc-le-zero h)
 numbers-at f k (suc n) zero h = ap f (omega arith)
 numbers-at f k (suc n) (suc i) h = numbers-at f (k + 1) n i (le-of-suc-le-suc h) ∙ ap f (omega arith)
 
+-- There is one jiffy for each event.
 pub length-jiffies : (ms : List (Outcome Meaning)) → length (jiffies ms) ≡ length ms
 unfolding jiffies
 length-jiffies ms = length-map (numbers 0 (length ms)) (jiffyOf ms) ∙ length-numbers 0 (length ms)
 
+-- Jiffy i of the list is the jiffy of event i, for each i below the number of events.
 pub jiffies-at : (ms : List (Outcome Meaning)) (i : ℕ) → i < length ms → getD (jiffies ms) i 0 ≡ jiffyOf ms i
 unfolding jiffies
 jiffies-at ms i h = numbers-at (jiffyOf ms) 0 (length ms) i h ∙ ap (jiffyOf ms) (omega arith)
@@ -65,6 +67,7 @@ from-at t q [] i h = absurd (not-suc-le-zero h)
 from-at t q (m ∷ ms) zero h = omega arith
 from-at t q (m ∷ ms) (suc i) h = from-at (t + lengthOf q m) (valuesAfter q m) ms i (le-of-suc-le-suc h) ∙ ap (λ (x : ℕ). x / 384) (omega arith)
 
+-- The run from time 0 and the values at the start finds the jiffies of the events.
 pub jiffies-from : (ms : List (Outcome Meaning)) → jiffies ms ≡ jiffiesFrom 0 atStart ms
 unfolding jiffyOf timeOf
 jiffies-from ms =
@@ -76,12 +79,14 @@ pub record ByteValues (q : Values) : Type 0 where
   pub utl : q .utl ≤ 255
   pub utv : q .utv ≤ 255
 
+-- The values at the start are in the bounds of ByteValues.
 pub start-byte-values : ByteValues atStart
 start-byte-values = record { tempo = lit≤ tt; utl = lit≤ tt; utv = lit≤ tt }
 
 tempo-low : (b : ℕ) → b < 256 → tempoOf b ≤ 256
 tempo-low b h = cases (eqb b 0) (λ e. rw e (lit≤ tt)) (λ e. rw e (omega arith))
 
+-- Where the values are in these bounds, so are the values after a pair of bytes.
 pub byte-values-after : (q : Values) (a b : ℕ) → a < 256 → b < 256 → ByteValues q → ByteValues (valuesAfter q (meaningOf a b))
 byte-values-after q a b ha hb m =
     rw (values-are q a b ha hb)
@@ -107,6 +112,7 @@ shaped-bound Dotted x h = omega arith
 shaped-bound DoubleDotted x h = omega arith
 shaped-bound Triplet x h = omega arith
 
+-- Where the values are in these bounds, the length of an event is at most 172,032 384ths of a jiffy.
 pub length-bound : (q : Values) (m : Outcome Meaning) → ByteValues q → lengthOf q m ≤ 172032
 unfolding lengthOf
 length-bound q m h = go (timingOf m)

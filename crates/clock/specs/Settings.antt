@@ -97,6 +97,7 @@ setting-is a b ha hb =
           ]
     ]
 
+-- After a pair of bytes the values are those before it, changed as settingOf says.
 pub values-are : (q : Values) (a b : ℕ) → a < 256 → b < 256 → valuesAfter q (meaningOf a b) ≡ setBy q (settingOf a b)
 unfolding valuesAfter
 values-are q a b ha hb =
@@ -105,6 +106,7 @@ values-are q a b ha hb =
       | no p ↦ rw (ne-eqb (a % 4) 0 p, setting-is a b ha hb)
     ]
 
+-- A pair of bytes whose first byte has low bits other than 00 has length 0.
 pub length-command : (q : Values) (a b : ℕ) → a < 256 → b < 256 → (a % 4 ≡ 0 → ⊥) → lengthOf q (meaningOf a b) ≡ 0
 unfolding lengthOf
 length-command q a b ha hb p =

@@ -32,6 +32,7 @@ twelfthsOf bit7 bit5 = cond (eqb bit7 0) (cond (eqb bit5 0) 12 18) (cond (eqb bi
 abbrev pub shares : ℕ → ℕ
 shares a = thirtySeconds (a / 4 % 8) * twelfthsOf (a / 128) (a / 32 % 2)
 
+-- A byte's shares are at most 672.
 pub shares-low : (a : ℕ) → a < 256 → shares a ≤ 672
 shares-low a h = leb→le (shares a) 672 (every-at (λ k. leb (shares k) 672) 256 tt a h)
 
@@ -48,6 +49,8 @@ shaped-share bit7 bit5 x =
     cases (eqb bit7 0) (λ s. cases (eqb bit5 0) (λ t. rw (s, t) (omega arith)) (λ t. rw (s, t) (omega arith)))
     (λ s. cases (eqb bit5 0) (λ t. rw (s, t) (omega arith)) (λ t. rw (s, t) (omega arith)))
 
+-- A first byte's shares times the tempo are the length of the value and shape that valueOf and shapeOf read
+-- from its bits.
 pub shares-are : (q : Values) (a : ℕ) → shares a * q .tempo ≡ shaped (shapeOf (a / 128) (a / 32 % 2)) (plainLength q (valueOf (a / 4 % 8)))
 shares-are q a =
     let m = thirtySeconds (a / 4 % 8) in

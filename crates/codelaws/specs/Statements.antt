@@ -1,8 +1,8 @@
--- docs/INTERFACE.md, 'The code of a meaning': coding and decoding, for the meanings that some pair has and
--- for no more; and which refusals a number and a pair can have.
+-- docs/INTERFACE.md, 'The code of a meaning': coding and decoding, for the meanings that some pair has; and
+-- which refusals a number and a pair can have.
 -- Coded               a meaning whose code has 32 bits and decodes to it
 -- CodingAndDecoding   the laws; proofs/Laws.antt proves them
--- code-shared         why coding says nothing of other meanings: P-S 65,537 has the code of P-S -1
+-- code-shared         why this does not hold of all meanings: P-S 65,537 has the code of P-S -1
 -- decoded-unpaired    a number may decode to a meaning that no pair has: P-W 65,535; writing it is 43
 use Prim.Native.Nat.{ℕ, _<_}
 use mathlib.Core.Path.{_≡_, refl}

@@ -12,6 +12,8 @@ use Rattle.commandtable.specs.Patterns.{fits, number}
 use Rattle.command.specs.Others.{FirstRow, rowFound}
 
 module _ (P : Outcome Meaning → Type 0) where
+  -- What holds of one outcome where a test is true, and of another in any case, holds of the one that the
+  -- test picks.
   pub picked : (t : Bool) (x y : Outcome Meaning) → (t ≡ true → P x) → P y → P (cond t x y)
   picked true x y p q = p refl
   picked false x y p q = q
@@ -20,6 +22,8 @@ module _ (P : Outcome Meaning → Type 0) where
   Each [] a b = Unit
   Each (r ∷ rs) a b = (fits (r .pattern) a ≡ true → P (r .means (number (r .pattern) a * 256 + b))) × Each rs a b
 
+  -- What holds of the meaning by each row that the first byte fits, and of what else there is, holds of the
+  -- meaning that is found.
   pub found-holds : (rs : List FirstRow) (a b : ℕ) (x : Outcome Meaning) → Each rs a b → P x → P (rowFound rs a b x)
   found-holds [] a b x e h = h
   found-holds (r ∷ rs) a b x e h =

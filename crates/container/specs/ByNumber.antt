@@ -26,6 +26,7 @@ module _ (P : ℕ → Type 0) where
   EachNumber [] = Unit
   EachNumber (t ∷ ts) = P (numberOf (t .reason)) × EachNumber ts
 
+  -- What holds of the number of each test holds of the number with which the tests refuse.
   pub first-each : (ts : List Test) → EachNumber ts → (n : ℕ) → firstOf ts ≡ Failed n → P n
   first-each [] h n e = absurd (let z : _≡_ {A = ℕ} 0 1 = cc in omega arith)
   first-each (t ∷ ts) h n e =
@@ -41,10 +42,12 @@ guarded-each P ts a h n p e = go (firstOf ts) refl e
     go Passed q r = absurd (two-ways (sym r))
     go (Failed m) q r = let is : m ≡ n = cc in subst P is (first-each P ts h m q)
 
+-- The number with which the head of a file is refused is at most 24.
 pub head-number : (f : List ℕ) (n p : ℕ) → headOutcome f ≡ refused n p → n ≤ 24
 unfolding headOutcome
 head-number f n p e = guarded-each (λ k. k ≤ 24) (headTests (headOf f)) (voicesOf (headOf f)) (lit≤ tt, (lit≤ tt, (lit≤ tt, (lit≤ tt, tt)))) n p e
 
+-- Where the head of a file is right and its container is refused, the number is above 24.
 pub text-number : (f : List ℕ) (v : Voices) (n p : ℕ) → headOutcome f ≡ accepted v → containerOutcome f ≡ refused n p → 24 < n
 unfolding containerOutcome containerTests
 text-number f v n p h e =

@@ -3,12 +3,13 @@
 -- layout-of                  the layout that is given out
 -- head-once, layout-once     no two answers have the same outcome
 -- line-part, lines-part      the span of a line names the line, so in a layout
--- VoiceFits                  a voice has an even number of bytes, not 0, and lies in the file
+-- VoiceFits                  a voice has an even number of bytes, not 0, lies in the file, and has at most
+--                            65,535 bytes
 -- HeadFits, head-fits        what 21 to 24 leave: a file of at most 65,536 bytes, and three such voices
 -- head-none                  an answer with the voices is where they lie, and none of 21 to 24 applies
 -- long-head                  a file of more than 65,536 bytes is 22
 -- head-first                 21 to 24 come first
--- short-file, voice1-fits, ..   the same of a right container
+-- short-file, voice1-fits, voice2-fits, voice3-fits   the same of a right container
 -- text-whole                 what comes after the voices is five lines and a $00, and nothing more
 -- text-good                  the lines have 0 to 32 bytes, and neither $0D nor $00 is among them
 use Prim.Native.Nat.{ℕ, _+_, _-_, _%_, _<_, _≤_}
@@ -139,6 +140,7 @@ head-first f n p e = rw (first-append (headTests (headOf f)) (textTests (textIn 
     go Passed q = absurd (two-ways (sym q))
     go (Failed m) q = cc
 
+-- Of a file to which none of 21 to 26 applies:
 module _ (f : List ℕ) (none : None (containerTests f)) where
   head-clear : None (headTests (headOf f))
   unfolding containerTests
@@ -170,7 +172,7 @@ module _ (f : List ℕ) (none : None (containerTests f)) where
       let at = voicesEnd (headOf f) in
       rw (drop-of-length-le f text-last) at (text-split f at text-right)
 
-  -- Each of these lines has 0 to 32 bytes, and none of them is $0D or $00.
+  -- Each of these lines has 0 to 32 bytes, and none of these bytes is $0D or $00.
   pub text-good : GoodLines
       (line f (voicesEnd (headOf f)) 0)
       (line f (voicesEnd (headOf f)) 1)
@@ -179,15 +181,17 @@ module _ (f : List ℕ) (none : None (containerTests f)) where
       (line f (voicesEnd (headOf f)) 4)
   text-good = lines-good f (voicesEnd (headOf f)) text-right
 
-  -- Each voice has an even number of bytes, not 0, and lies in the file.
+  -- Voice 1 has an even number of bytes, not 0 and at most 65,535, and lies in the file.
   pub voice1-fits : VoiceFits f (layoutOf f .voice1)
   unfolding layoutOf
   voice1-fits = head-fits f head-clear .voice1
 
+  -- Voice 2 has an even number of bytes, not 0 and at most 65,535, and lies in the file.
   pub voice2-fits : VoiceFits f (layoutOf f .voice2)
   unfolding layoutOf
   voice2-fits = head-fits f head-clear .voice2
 
+  -- Voice 3 has an even number of bytes, not 0 and at most 65,535, and lies in the file.
   pub voice3-fits : VoiceFits f (layoutOf f .voice3)
   unfolding layoutOf
   voice3-fits = head-fits f head-clear .voice3

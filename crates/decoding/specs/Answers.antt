@@ -42,30 +42,35 @@ abbrev pub outcomeOfTone : ToneAt → Outcome Tone
 outcomeOfTone (ToneAt.Is t) = accepted t
 outcomeOfTone ToneAt.None = noMeaning
 
+-- Two answers of a duration that have one outcome are one answer.
 pub duration-once : (a b : DurationAt) → outcomeOfDuration a ≡ outcomeOfDuration b → a ≡ b
 duration-once (DurationAt.Is x) (DurationAt.Is y) e = let same : x ≡ y = cc in rw same
 duration-once (DurationAt.Is x) DurationAt.None e = absurd (two-ways (sym e))
 duration-once DurationAt.None (DurationAt.Is y) e = absurd (two-ways e)
 duration-once DurationAt.None DurationAt.None e = refl
 
+-- Two answers of a shape that have one outcome are one answer.
 pub shape-once : (a b : ShapeAt) → outcomeOfShape a ≡ outcomeOfShape b → a ≡ b
 shape-once (ShapeAt.Is x) (ShapeAt.Is y) e = let same : x ≡ y = cc in rw same
 shape-once (ShapeAt.Is x) ShapeAt.None e = absurd (two-ways (sym e))
 shape-once ShapeAt.None (ShapeAt.Is y) e = absurd (two-ways e)
 shape-once ShapeAt.None ShapeAt.None e = refl
 
+-- Two answers of a letter that have one outcome are one answer.
 pub letter-once : (a b : LetterAt) → outcomeOfLetter a ≡ outcomeOfLetter b → a ≡ b
 letter-once (LetterAt.Is x) (LetterAt.Is y) e = let same : x ≡ y = cc in rw same
 letter-once (LetterAt.Is x) LetterAt.None e = absurd (two-ways (sym e))
 letter-once LetterAt.None (LetterAt.Is y) e = absurd (two-ways e)
 letter-once LetterAt.None LetterAt.None e = refl
 
+-- Two answers of an accidental that have one outcome are one answer.
 pub accidental-once : (a b : AccidentalAt) → outcomeOfAccidental a ≡ outcomeOfAccidental b → a ≡ b
 accidental-once (AccidentalAt.Is x) (AccidentalAt.Is y) e = let same : x ≡ y = cc in rw same
 accidental-once (AccidentalAt.Is x) AccidentalAt.None e = absurd (two-ways (sym e))
 accidental-once AccidentalAt.None (AccidentalAt.Is y) e = absurd (two-ways e)
 accidental-once AccidentalAt.None AccidentalAt.None e = refl
 
+-- Two answers of a tone that have one outcome are one answer.
 pub tone-once : (a b : ToneAt) → outcomeOfTone a ≡ outcomeOfTone b → a ≡ b
 tone-once (ToneAt.Is x) (ToneAt.Is y) e = let same : x ≡ y = cc in rw same
 tone-once (ToneAt.Is x) ToneAt.None e = absurd (two-ways (sym e))

@@ -20,6 +20,8 @@ use Rattle.events.specs.Listing.{playedIn, Listing, listing}
 abbrev pub listed : ℕ → Listing
 listed voice = listing example voice 0 (90 ∷ 91 ∷ 92 ∷ 93 ∷ 94 ∷ 95 ∷ 96 ∷ []) (80 ∷ 81 ∷ 82 ∷ 83 ∷ 84 ∷ 85 ∷ 86 ∷ [])
 
+-- Of the paper's file, voices 1, 2 and 3 fill 5, 1 and 1 cells with these offsets and jiffies, and the other
+-- cells keep what they held.
 pub example-listed : (listed 1 ≡ record { answer = accepted 5; offsets = 8 ∷ 12 ∷ 12 ∷ 12 ∷ 16 ∷ 95 ∷ 96 ∷ []; jiffies = 0 ∷ 0 ∷ 1 ∷ 3 ∷ 5 ∷ 85 ∷ 86 ∷ [] })
     × (listed 2 ≡ record { answer = accepted 1; offsets = 18 ∷ 91 ∷ 92 ∷ 93 ∷ 94 ∷ 95 ∷ 96 ∷ []; jiffies = 0 ∷ 81 ∷ 82 ∷ 83 ∷ 84 ∷ 85 ∷ 86 ∷ [] })
     × (listed 3 ≡ record { answer = accepted 1; offsets = 20 ∷ 91 ∷ 92 ∷ 93 ∷ 94 ∷ 95 ∷ 96 ∷ []; jiffies = 0 ∷ 81 ∷ 82 ∷ 83 ∷ 84 ∷ 85 ∷ 86 ∷ [] })

@@ -51,7 +51,7 @@ listed-once (Refused x) (Count n) e = absurd (two-ways e)
 listed-once (Refused x) (Refused y) e = ap Refused (refused-once {X = ℕ} x y e)
 
 -- What an answer with a count says: the file is accepted, the voice is one of its three, the lists are of one
--- length, and the call leaves what the window of that voice is.
+-- length, and the call leaves windowIn of that voice.
 pub record Answered (f : List ℕ) (voice first : ℕ) (os js : List ℕ) : Type 0 where
   pub song : Song
   pub file : musOutcome f ≡ accepted song

@@ -61,6 +61,7 @@ module _ (mark : ℕ) where
         let more : 1 + rest ≡ suc rest = omega arith in
         rw (eqb·suc-zero n, h .0, more) (next n bs (h .1))
 
+  -- Entry n of the joined list is entry n, and empty past the last, where no entry has the mark in it.
   pub entry-joined : (ps : List (List ℕ)) (n : ℕ) → anyHasMark ps ≡ false → entryAt (entriesJoined ps) mark n ≡ getD ps n []
   unfolding entryAt entryStart before
   entry-joined [] n e = refl

@@ -15,17 +15,20 @@ use Rattle.logic.specs.Cases.{cases}
 use Rattle.fields.specs.Parts.{before, put}
 
 module _ (mark : ℕ) where
+  -- The bytes before the first mark are the first bytes of their list.
   pub take-before : (s : List ℕ) → take (length (before mark s)) s ≡ before mark s
   unfolding before
   take-before [] = refl
   take-before (b ∷ bs) = cases (eqb b mark) (λ e. rw e) (λ e. rw e (ap (λ (l : List ℕ). b ∷ l) (take-before bs)))
 
+  -- The bytes before the first mark are at most as many as the bytes of their list.
   pub length-before : (s : List ℕ) → length (before mark s) ≤ length s
   unfolding before
   length-before [] = omega arith
   length-before (b ∷ bs) = let rest = length-before bs in cases (eqb b mark) (λ e. rw e (omega arith)) (λ e. rw e (omega arith))
 
 module _ (m : List ℕ) (a : ℕ) (p : List ℕ) (fits : a + length p ≤ length m) where
+  -- Memory keeps its length, where the payload from cell a on fits into it.
   pub length-put : length (put m a p) ≡ length m
   unfolding put
   length-put = simp (length-append, length-take, length-drop) (omega arith)
@@ -41,14 +44,17 @@ module _ (m : List ℕ) (a : ℕ) (p : List ℕ) (fits : a + length p ≤ length
   unfolding put rest
   at-rest j = rw (append-assoc (take a m) p (drop (a + length p) m)) (rw start at (getD-append-add (take a m) rest j 0))
 
+  -- Cell a + j holds byte j of the payload, for each j below the payload's length, where the payload fits.
   pub put-inside : (j : ℕ) → j < length p → getD (put m a p) (a + j) 0 ≡ getD p j 0
   unfolding rest
   put-inside j h = at-rest j ∙ List·getD-append p (drop (a + length p) m) 0 j h
 
+  -- Each cell after the payload's cells is as it was, where the payload fits.
   pub put-above : (j : ℕ) → getD (put m a p) (a + (length p + j)) 0 ≡ getD m (a + length p + j) 0
   unfolding rest
   put-above j = at-rest (length p + j) ∙ getD-append-add p (drop (a + length p) m) j 0 ∙ getD-drop (a + length p) m j 0
 
+  -- Each cell below a is as it was, where the payload fits.
   pub put-below : (i : ℕ) → i < a → getD (put m a p) i 0 ≡ getD m i 0
   unfolding put rest
   put-below i h =

@@ -75,15 +75,15 @@ made-back (Bad n) = refl
 abbrev pub sameKind : Kind → Kind → Bool
 sameKind j k = eqb (tag j) (tag k) && eqb (held j) (held k)
 
--- kinds that compare as the same are the same
+-- Kinds that compare as the same are the same.
 pub same-kind : (j k : Kind) → T (sameKind j k) → j ≡ k
 same-kind j k t =
     let tags = eqb→eq (tag j) (tag k) (all-left (eqb (tag j) (tag k)) (eqb (held j) (held k)) t) in
     let numbers = eqb→eq (held j) (held k) (all-right (eqb (tag j) (tag k)) (eqb (held j) (held k)) t) in
     sym (made-back j) ∙ (λ i. made (tags i) (numbers i)) ∙ made-back k
 
--- a test of kinds that events, 27 and 28 pass: every pair passes it where HED with its second byte, and the
--- second byte after 01, do
+-- A test of kinds that events, 27 and 28 pass.
+-- Every pair passes it, if HED with its second byte does and the second byte after 01 does.
 module _ (f : Kind → Bool) (event : T (f Event)) (none : T (f (Bad 27))) (out : T (f (Bad 28))) where
   abbrev Held : Outcome Meaning → Type 0
   Held x = T (f (kindOf x))
@@ -151,7 +151,7 @@ either : (s t : Bool) {A B : Type 0} → (T s → A) → (T t → B) → T (s ||
 either true t f g h = inl (f tt)
 either false t f g h = inr (g h)
 
--- a pair that is refused is refused with 27 or 28, whatever its two numbers are
+-- A pair that is refused is refused with 27 or 28, whatever its two numbers are.
 pub kind-bad : (a b n : ℕ) → kindOf (meaningOf a b) ≡ Bad n → (n ≡ 27) ⊎ (n ≡ 28)
 kind-bad a b n e =
     either (eqb n 27) (eqb n 28) (eqb→eq n 27) (eqb→eq n 28)
@@ -184,6 +184,6 @@ numbered-by (Cal k) t bad = ltb-true k 24 (true-of (ltb k 24) t)
 numbered-by Hlt t bad = tt
 numbered-by (Bad n) t bad = bad n refl
 
--- a pair of bytes has a kind whose number is in its bounds
+-- A pair whose second number is a byte has a kind whose number is in its bounds.
 pub kind-numbered : (a b : ℕ) → b < 256 → Numbered (kindOf (meaningOf a b))
 kind-numbered a b h = numbered-by (kindOf (meaningOf a b)) (pair-bounded a b h) (kind-bad a b)

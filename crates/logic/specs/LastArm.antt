@@ -10,6 +10,7 @@ module _ {A : Type 0} (number : A → ℕ) where
   Others T [] n = T
   Others T (x ∷ xs) n = Others (T × (n ≡ number x → ⊥)) xs n
 
+  -- Where Others holds of the arms of a list, what was known before them holds.
   pub others-known : (T : Type 0) (xs : List A) (n : ℕ) → Others T xs n → T
   others-known T [] n o = o
   others-known T (x ∷ xs) n o = others-known (T × (n ≡ number x → ⊥)) xs n o .0

@@ -1,9 +1,9 @@
 -- Document 01, 'What comes back' and 'A pair': what each case of the answers' enums is, as a value or a
 -- refusal's number and place.
--- Bytes            the two bytes of a pair
--- outcomeOfMeaning what a reading answers
--- outcomeOfBytes   what a spelling answers
--- outcomeOfStep    what a half-step's answer is
+-- Bytes              the two bytes of a pair
+-- outcomeOfMeaning   what a reading answers
+-- outcomeOfBytes     what a spelling answers
+-- outcomeOfStep      what a half-step's answer is
 use Prim.Native.Nat.{ℕ}
 use lib.IntN.{ℤ}
 use Rattle.meaning.specs.declared.Meaning.{Meaning}

@@ -38,17 +38,17 @@ use Rattle.mus.specs.Voices.{orFound, limited, voiceOutcome}
 use Rattle.mus.specs.Song.{voiceIn, songWith, songIn, musOutcome}
 
 pub record Passes (v : List (Outcome Meaning)) : Type 0 where
-  -- 27 to 29, at each pair
+  -- None of 27 to 29 applies at any pair.
   pub pairs : AllNone (pairsTests v)
-  -- 30 and 31, at each pair
+  -- Neither 30 nor 31 applies at any pair.
   pub structure : AllNone (nestingsTests start v)
-  -- 32 and 33
+  -- Neither 32 nor 33 applies to the voice.
   pub limits : None (limitTests v)
 
 abbrev pub voiceReport : ℕ → List ℕ → Voice
 voiceReport offset bs = record { offset = offset; length = length bs; events = eventsOf (pairs bs); walked = walkedOf (pairs bs) }
 
--- a voice to which none of 27 to 33 applies is accepted
+-- A voice to which none of 27 to 33 applies is accepted, and what is reported of it is voiceReport.
 pub passes-voice : (offset : ℕ) (bs : List ℕ) → Passes (pairs bs) → voiceOutcome offset bs ≡ accepted (voiceReport offset bs)
 unfolding voiceOutcome pairsFinding structureFinding
 passes-voice offset bs p =
@@ -64,7 +64,7 @@ limited-none : (offset len : ℕ) (x : Verdict) (events walked : ℕ) (v : Voice
 limited-none offset len Passed events walked v e = (refl, cc)
 limited-none offset len (Failed n) events walked v e = absurd (two-ways e)
 
--- an accepted voice is one to which none of 27 to 33 applies, and is reported as it is
+-- An accepted voice is one to which none of 27 to 33 applies, and what is reported of it is voiceReport.
 pub voice-passes : (offset : ℕ) (bs : List ℕ) (v : Voice) → voiceOutcome offset bs ≡ accepted v → Passes (pairs bs) × (voiceReport offset bs ≡ v)
 unfolding voiceOutcome pairsFinding structureFinding
 voice-passes offset bs v e =
@@ -80,11 +80,13 @@ voice-passes offset bs v e =
     )
 
 pub record Clear (f : List ℕ) : Type 0 where
-  -- 21 to 26
+  -- None of 21 to 26 applies to the file.
   pub container : None (containerTests f)
-  -- 27 to 33, of each voice
+  -- None of 27 to 33 applies to voice 1.
   pub voice1 : Passes (pairs (partOf f (layoutOf f .voice1)))
+  -- None of 27 to 33 applies to voice 2.
   pub voice2 : Passes (pairs (partOf f (layoutOf f .voice2)))
+  -- None of 27 to 33 applies to voice 3.
   pub voice3 : Passes (pairs (partOf f (layoutOf f .voice3)))
 
 abbrev voiceAt : List ℕ → Span → Voice
@@ -93,24 +95,27 @@ voiceAt f s = voiceReport (s .from) (partOf f s)
 unfoldable pub songOf : List ℕ → Song
 songOf f = songWith (layoutOf f) (voiceAt f (layoutOf f .voice1)) (voiceAt f (layoutOf f .voice2)) (voiceAt f (layoutOf f .voice3))
 
--- a file to which none of 21 to 26 applies, nor any of 27 to 33 to one of its voices, is accepted
+-- A file to which none of 21 to 26 applies, nor any of 27 to 33 to one of its voices, is accepted, and what
+-- is reported of it is songOf.
 pub clear-accepted : (f : List ℕ) → Clear f → musOutcome f ≡ accepted (songOf f)
 unfolding musOutcome songOf
 clear-accepted f c =
     let l = layoutOf f in
     rw (none-layout f (c .container), passes-voice (l .voice1 .from) (partOf f (l .voice1)) (c .voice1), passes-voice (l .voice2 .from) (partOf f (l .voice2)) (c .voice2), passes-voice (l .voice3 .from) (partOf f (l .voice3)) (c .voice3))
 
--- where what comes after a part is accepted, the part is accepted with a value, and so is what comes after it
+-- A part is accepted with a value, and what comes after that value is accepted.
 pub record Given {A B : Type 0} (o : Outcome A) (g : A → Outcome B) (b : B) : Type 0 where
   pub value : A
   pub was : o ≡ accepted value
   pub gives : g value ≡ accepted b
 
+-- Where what comes after a part is accepted, the part is accepted with a value, and what comes after that
+-- value is what is accepted.
 pub then-given : {A B : Type 0} (o : Outcome A) (g : A → Outcome B) (b : B) → andThen o g ≡ accepted b → Given o g b
 then-given (accepted x) g b e = record { value = x; was = refl; gives = e }
 then-given (refused n p) g b e = absurd (two-ways e)
 
--- an accepted file is one to which none of them applies, and is reported as it is
+-- An accepted file is one to which none of them applies, and what is reported of it is songOf.
 pub accepted-clear : (f : List ℕ) (s : Song) → musOutcome f ≡ accepted s → Clear f × (songOf f ≡ s)
 unfolding musOutcome songOf
 accepted-clear f s e =

@@ -22,43 +22,45 @@ use Rattle.mus.specs.Asked.{bytesOf}
 use Rattle.mus.specs.Acceptance.{Passes}
 
 pub record AcceptedVoice (v : List (Outcome Meaning)) : Type 1 where
-  -- every stored pair means something: none is unassigned or out of its range
+  -- Every stored pair means something: none is unassigned or out of its range.
   pub means : AllMean v
-  -- the bodies written out again are the stored pairs: HED n, its body, TAL; DEF k, its body, END; CAL k; and
-  -- events
+  -- The bodies written out again are the stored pairs: HED n, its body, TAL; DEF k, its body, END; CAL k; and
+  -- events.
   pub written : writtenOut (bodyOf v) ≡ pieces 0 v
-  -- no event in them is HED, TAL, DEF, END or CAL
+  -- No event in them is HED, TAL, DEF, END or CAL.
   pub plain : OnlyEvents (bodyOf v)
-  -- each CAL k stands for the body of the one DEF k of the voice, played out; and so for its pairs walked,
-  -- its depth and whatever else is made of bodies
+  -- Each CAL k stands for the body of the one DEF k of the voice, played out; and so for its pairs walked,
+  -- its depth and whatever else is made of bodies.
   pub calls : {A : Type 0} (m : Interpretation A) (k : ℕ) → Called k (bodyOf v) → TheOne m (phrasesOf m v) k (bodyOf v)
-  -- the played-out voice ends in its only HLT, the last stored pair
+  -- The played-out voice ends in its only HLT, the last stored pair.
   pub ends : EndsInHlt (played v) (length v)
-  -- at most 16 repeats and calls are in progress at once
+  -- At most 16 repeats and calls are in progress at once.
   pub depth : depthOf v ≤ 16
-  -- at most 1,048,576 pairs are walked
+  -- At most 1,048,576 pairs are walked.
   pub walked : walkedOf v ≤ 1048576
-  -- no more events are played than pairs walked
+  -- No more events are played than pairs walked.
   pub events : eventsOf v ≤ walkedOf v
 
 pub record ReportedVoice (f : List ℕ) (v : Voice) : Type 1 where
-  -- of its bytes in the file all that holds
+  -- All that AcceptedVoice says holds of its bytes in the file.
   pub stored : AcceptedVoice (pairs (bytesOf f v))
-  -- the events reported are those of the played-out voice
+  -- The events reported are those of the played-out voice.
   pub events : v .events ≡ eventsOf (pairs (bytesOf f v))
-  -- the pairs walked are those of the definition
+  -- The pairs walked are those of the definition.
   pub walked : v .walked ≡ walkedOf (pairs (bytesOf f v))
-  -- and at most 1,048,576
+  -- The pairs walked are at most 1,048,576.
   pub few : v .walked ≤ 1048576
 
 pub record AcceptedSong (f : List ℕ) (s : Song) : Type 1 where
-  -- each voice of an accepted file is so
+  -- Voice 1 is as ReportedVoice says.
   pub voice1 : ReportedVoice f (s .voice1)
+  -- Voice 2 is as ReportedVoice says.
   pub voice2 : ReportedVoice f (s .voice2)
+  -- Voice 3 is as ReportedVoice says.
   pub voice3 : ReportedVoice f (s .voice3)
 
 pub record AcceptanceShows : Type 1 where
-  -- of every voice with a stored pair, to which none of 27 to 33 applies
+  -- AcceptedVoice holds of every voice with a stored pair, to which none of 27 to 33 applies.
   pub voice : (bs : List ℕ) → 1 < length bs → Passes (pairs bs) → AcceptedVoice (pairs bs)
-  -- of every file that is accepted
+  -- AcceptedSong holds of every file that is accepted.
   pub song : (f : List ℕ) (s : Song) → musOutcome f ≡ accepted s → AcceptedSong f s

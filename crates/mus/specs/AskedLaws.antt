@@ -30,15 +30,15 @@ use Rattle.mus.specs.Asked.{numberTests, songVoice, voiceAsked}
 use Rattle.mus.specs.Acceptance.{Passes, voiceReport, songOf, accepted-clear, then-given}
 use Rattle.mus.specs.Bounds.{InSong}
 
--- no two answers have the same outcome
+-- No two answers have the same outcome.
 pub voice-once : (a b : VoiceAnswer) → outcomeOfVoice a ≡ outcomeOfVoice b → a ≡ b
 voice-once (Accepted v) (Accepted w) e = let same : v ≡ w = cc in rw same
 voice-once (Accepted v) (Refused y) e = absurd (two-ways (sym e))
 voice-once (Refused x) (Accepted w) e = absurd (two-ways e)
 voice-once (Refused x) (Refused y) e = ap Refused (refused-once {X = Voice} x y e)
 
--- what an answer other than a refusal says: the number is 1 to 3, the file is accepted, and the voice is that
--- one of it
+-- What an answer other than a refusal says: the number is 1 to 3, the file is accepted, and the voice is that
+-- one of it.
 pub record Asked (f : List ℕ) (n : ℕ) (v : Voice) : Type 0 where
   pub number : ltb n 1 || ltb 3 n ≡ false
   pub song : Song
@@ -46,17 +46,17 @@ pub record Asked (f : List ℕ) (n : ℕ) (v : Voice) : Type 0 where
   pub voice : songVoice song n ≡ v
 
 module _ (f : List ℕ) (n : ℕ) where
-  -- '41 voice not 1 to 3', before the file
+  -- A number that is not 1 to 3 is 41, whatever the file ('41 voice not 1 to 3').
   pub number-first : ltb n 1 || ltb 3 n ≡ true → voiceAsked f n ≡ refused 41 0
   unfolding voiceAsked
   number-first e = rw e
 
-  -- then the outcome of the file, and of an accepted one the voice with that number
+  -- For 1 to 3 the outcome is that of the file, and of an accepted one the voice with that number.
   pub file-next : ltb n 1 || ltb 3 n ≡ false → voiceAsked f n ≡ andThen (musOutcome f) (λ s. accepted (songVoice s n))
   unfolding voiceAsked
   file-next e = rw e
 
-  -- an answer with a voice says all that
+  -- An answer with a voice is as Asked says.
   pub asked-accepted : (v : Voice) → voiceAsked f n ≡ accepted v → Asked f n v
   unfolding voiceAsked
   asked-accepted v e =
@@ -73,7 +73,7 @@ take-own zero l = refl
 take-own (suc n) [] = refl
 take-own (suc n) (x ∷ l) = ap (λ (r : List ℕ). x ∷ r) (take-own n l)
 
--- a voice where its span lies; 23 lets no voice of 0 bytes pass
+-- a voice where its span lies; 23 lets no voice of 0 or an odd number of bytes pass
 span-in : (f : List ℕ) (s : Span) → Passes (pairs (partOf f s)) → length f ≤ 65536 → VoiceFits f s → InSong f (voiceReport (s .from) (partOf f s))
 span-in f s p short fits =
     let own = take-own (s .len) (drop (s .from) f) in
@@ -86,7 +86,7 @@ span-in f s p short fits =
       walked = rw own;
     }
 
--- a voice of an accepted file, by its number, is as acceptance has reported it
+-- A voice of an accepted file, by its number, is as acceptance has reported it.
 pub in-song : (f : List ℕ) (s : Song) (n : ℕ) → musOutcome f ≡ accepted s → InSong f (songVoice s n)
 unfolding songOf
 in-song f s n e =
@@ -98,6 +98,6 @@ in-song f s n e =
     (λ a. cases (eqb n 2) (λ b. rw (a, b) (span-in f (layoutOf f .voice2) (c .0 .voice2) short (voice2-fits f k)))
     (λ b. rw (a, b) (span-in f (layoutOf f .voice3) (c .0 .voice3) short (voice3-fits f k)))))
 
--- and so is a voice that is asked for and answered
+-- So is the voice that is answered to a caller who names it.
 pub asked-in-song : (f : List ℕ) (n : ℕ) (v : Voice) → voiceAsked f n ≡ accepted v → InSong f v
 asked-in-song f n v e = let a = asked-accepted f n v e in subst (InSong f) (a .voice) (in-song f (a .song) n (a .file))

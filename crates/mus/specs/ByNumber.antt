@@ -73,7 +73,7 @@ limited-above offset len v = go (firstOf (limitTests v)) refl
     go Passed e = tt
     go (Failed n) e = first-each Late (limitTests v) (lit< tt, (lit< tt, tt)) n e
 
--- a voice is refused with a number above 26, or accepted
+-- A voice is refused with a number above 26, or accepted.
 pub voice-above : (offset : ℕ) (bs : List ℕ) → Above 26 (voiceOutcome offset bs)
 unfolding voiceOutcome pairsFinding structureFinding
 voice-above offset bs =
@@ -101,7 +101,7 @@ module _ (f : List ℕ) where
       (λ v1. then-above (voiceIn f (l .voice2)) (λ v2. andThen (voiceIn f (l .voice3)) (λ v3. accepted (songWith l v1 v2 v3))) (span-above (l .voice2))
       (λ v2. then-above (voiceIn f (l .voice3)) (λ v3. accepted (songWith l v1 v2 v3)) (span-above (l .voice3)) (λ v3. tt)))
 
-  -- a file to whose head none of 21 to 24 applies is refused with a number above 24, or accepted
+  -- A file to whose head none of 21 to 24 applies is refused with a number above 24, or accepted.
   pub head-above : (v : Voices) → headOutcome f ≡ accepted v → Above 24 (musOutcome f)
   unfolding musOutcome
   head-above v e = then-above (containerOutcome f) (λ l. songIn f l) (go (containerOutcome f) refl) song-above

@@ -1,8 +1,8 @@
 -- Laws of a file's outcome; when a file is accepted is in Acceptance.antt.
 -- song-once                    no two answers have the same outcome
 -- head-refused                 21 to 24 come first
--- long-refused, song-cut-off   a file of more than 65,536 bytes is 22, and so is what is left of it that is
---                              as long
+-- long-refused, song-cut-off   a file of more than 65,536 bytes is 22, and so are its first n bytes for n
+--                              above 65,536
 use Prim.Native.Nat.{ℕ, _<_}
 use mathlib.Core.Path.{_≡_, sym, ap, _∙_}
 use mathlib.Core.List.{List}
@@ -17,22 +17,22 @@ use Rattle.mus.specs.declared.Reading.{Reading}
 use Rattle.mus.specs.declared.Reading.the-variants.{Accepted, Refused}
 use Rattle.mus.specs.Song.{musOutcome, outcomeOfSong}
 
--- no two answers have the same outcome
+-- No two answers have the same outcome.
 pub song-once : (a b : Reading) → outcomeOfSong a ≡ outcomeOfSong b → a ≡ b
 song-once (Accepted s) (Accepted t) e = let same : s ≡ t = cc in rw same
 song-once (Accepted s) (Refused y) e = absurd (two-ways (sym e))
 song-once (Refused x) (Accepted t) e = absurd (two-ways e)
 song-once (Refused x) (Refused y) e = ap Refused (refused-once {X = Song} x y e)
 
--- a file whose head one of 21 to 24 refuses is refused so
+-- A file whose head one of 21 to 24 refuses is refused so.
 pub head-refused : (f : List ℕ) (n p : ℕ) → headOutcome f ≡ refused n p → musOutcome f ≡ refused n p
 unfolding musOutcome
 head-refused f n p e = rw (head-first f n p e)
 
--- a file of more than 65,536 bytes is refused with 22, at place 0
+-- A file of more than 65,536 bytes is refused with 22, at place 0.
 pub long-refused : (f : List ℕ) → 65536 < length f → musOutcome f ≡ refused 22 0
 long-refused f h = head-refused f 22 0 (long-head f h)
 
--- what is left of such a file after more than 65,536 bytes are read has its outcome
+-- The first n bytes of such a file have its outcome, for n above 65,536.
 pub song-cut-off : (f : List ℕ) (n : ℕ) → 65536 < length f → 65536 < n → musOutcome (take n f) ≡ musOutcome f
 song-cut-off f n h g = long-refused (take n f) (omega (arith, length-take n f)) ∙ sym (long-refused f h)

@@ -34,12 +34,14 @@ use Rattle.note.specs.Writing.{shapeBits, plainOnly, plainOrTriplet, len
 use Rattle.note.specs.Preferred.{preferredFirst, preferredSecond}
 use Rattle.refusals.specs.Numbers.Outcome.{accepted}
 
+-- The bits of a shape are at most 160.
 pub shape-low : (s : Shape) → shapeBits s ≤ 160
 shape-low Plain = lit≤ tt
 shape-low Dotted = lit≤ tt
 shape-low DoubleDotted = lit≤ tt
 shape-low Triplet = lit≤ tt
 
+-- The bits of an accidental are at most 192.
 pub accidental-low : (a : Accidental) → accidentalBits a ≤ 192
 accidental-low Flat = lit≤ tt
 accidental-low Natural = lit≤ tt
@@ -47,6 +49,7 @@ accidental-low Sharp = lit≤ tt
 accidental-low DoubleSharp = lit≤ tt
 accidental-low DoubleFlat = lit≤ tt
 
+-- The number of a letter is at most 7.
 pub letter-number-low : (l : Letter) → letterNumber l ≤ 7
 letter-number-low C = lit≤ tt
 letter-number-low D = lit≤ tt
@@ -76,6 +79,7 @@ plain-or-triplet-low n m Dotted h k = tt
 plain-or-triplet-low n m DoubleDotted h k = tt
 plain-or-triplet-low n m Triplet h k = k
 
+-- The first byte of an untied note, if there is one, is at most 188.
 pub length-low : (d : Duration) (s : Shape) → Low (lengthByte d s)
 length-low Whole s = shaped-low 0x08 s (lit≤ tt)
 length-low Half s = shaped-low 0x0C s (lit≤ tt)
@@ -127,6 +131,7 @@ second-again : (b : ℕ) → b < 256 → secondAgain b ≡ Is (preferredSecond b
 second-again b low =
     byte-is (secondAgain b) (preferredSecond b) (every-at secondTest 256 seconds b low)
 
+-- The note of two bytes, the first with low bits 00, is written as the bytes that the writer has for it.
 pub read-note-writes : (a b : ℕ) → a < 256 → b < 256 → a % 4 ≡ 0
     → noteSpelling (noteOf a b) ≡ accepted (record { first = preferredFirst a; second = preferredSecond b })
 read-note-writes a b lowA lowB e = λ i. twoBytes (first-again a lowA e i) (second-again b lowB i)
@@ -203,6 +208,7 @@ octave-bits b top middle low e m l = omega arith
 abbrev pub pitchByte : Pitch → ℕ
 pitchByte p = accidentalBits (p .accidental) + 8 * (7 - p .octave) + letterNumber (p .letter)
 
+-- The second byte of a pitch in the tables reads as that pitch, and is below 256.
 pub pitch-reads : (p : Pitch) → inTables p ≡ true → (toneOf (pitchByte p) ≡ Sounds p) × (pitchByte p < 256)
 pitch-reads p e =
     let octave = octave-low p e in
@@ -233,6 +239,7 @@ both-taken (Is p) (Is q) a b e =
     let same : _≡_ {A = Bytes} (record { first = p; second = q }) (record { first = a; second = b }) = cc in
     (ap (λ r. Is (r .first)) same, ap (λ r. Is (r .second)) same)
 
+-- Two bytes that a note is written as are below 256, the first has low bits 00, and they read as that note.
 pub written-note-reads : (n : Note) (a b : ℕ) → noteSpelling n ≡ accepted (record { first = a; second = b })
     → (a % 4 ≡ 0) × (noteOf a b ≡ n) × (a < 256) × (b < 256)
 written-note-reads n a b e =

@@ -26,5 +26,6 @@ preferred a b =
     cond (eqb (a % 4) 0) (record { first = preferredFirst a; second = preferredSecond b })
     (record { first = a; second = cond (eqb a 0xA6) (preferredTps b) (cond (eqb a 0x2E) (preferredRtp b) b) })
 
+-- For A6 B1, TPS zero, the writer uses A6 0E; for 2E 52, RTP an octave up and one half-step down, 2E B3.
 pub preferred-worked : (preferred 0xA6 0xB1 ≡ record { first = 0xA6; second = 0x0E }) × (preferred 0x2E 0x52 ≡ record { first = 0x2E; second = 0xB3 })
 preferred-worked = (refl, refl)

@@ -1,10 +1,11 @@
 -- Source 004's tables: their rows lie apart, so that their order says nothing, and the bytes that fit none
--- are those that document 01 lists.
+-- are those that document 01 lists; of first bytes also the notes' and 01, which have their own tables.
 -- holding, rowsFitting   how many rows a byte fits, after 01 and as a first byte
 -- seconds-apart          no second byte after 01 fits two rows
 -- unassignedSeconds, seconds-unassigned   'Unassigned: 53 6F 7F 83 8B 9F BF CF FF', after 01
 -- others, firsts-apart   no first byte fits two rows of the other table
--- unassignedFirst, firsts-unassigned      'Unassigned: low bits 01 other than 01, and 8E AE CE EE'
+-- unassignedFirst, firsts-unassigned      notes' first bytes and 01; and 'Unassigned: low bits 01 other than
+--                                         01, and 8E AE CE EE'
 use Prim.Native.Nat.{ℕ, _+_, _%_, _≤_, _<_}
 use mathlib.Core.Path.{_≡_}
 use mathlib.Core.Bool.{Bool, true, false, _||_}
@@ -48,11 +49,13 @@ others = pulseRows ++ singleRows ++ joinedRows
 pub firsts-apart : (a : ℕ) → a < 256 → rowsFitting others a ≤ 1
 firsts-apart a h = leb→le (rowsFitting others a) 1 (every-at (λ k. leb (rowsFitting others k) 1) 256 tt a h)
 
--- notes' first bytes and those with low bits 01 (01 has a table of its own), and the four that are listed
+-- notes' first bytes and 01, which are not unassigned but have their own tables; and the unassigned ones:
+-- the others with low bits 01, and the four that are listed
 abbrev pub unassignedFirst : ℕ → Bool
 unassignedFirst a = eqb (a % 4) 0 || eqb (a % 4) 1 || among (0x8E ∷ 0xAE ∷ 0xCE ∷ 0xEE ∷ []) a
 
--- A first byte fits no row exactly when it is a note's, has low bits 01, or is listed as unassigned.
+-- A first byte fits no row exactly when it is a note's, has low bits 01 (01 too), or is one of the four that
+-- are listed as unassigned.
 pub firsts-unassigned : (a : ℕ) → a < 256 → eqb (rowsFitting others a) 0 ≡ unassignedFirst a
 firsts-unassigned a h =
     same-equal (eqb (rowsFitting others a) 0) (unassignedFirst a)

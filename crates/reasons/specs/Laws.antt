@@ -5,6 +5,7 @@ use Rattle.refusals.specs.Numbers.{Reason, numberOf}
 use Rattle.refusals.specs.Numbers.Reason.{tooShort, magic, version, dataOffset, rsidReserved, songs, reservedBits, musPayload, noPayload, pastMemory, rsidLoad, rsidInit, freePages, musShort, musPastMemory, voiceLength, voicesPastFile, textLines, bytesAfterText, unassignedPair, valueRange, hltMisplaced, structure, hedZero, tooDeep, tooLong, memorySize, voiceNumber, listLengths, noPair, noSuchSong}
 use Rattle.reasons.specs.Phrases.{phraseOf, byteText, phraseAt}
 
+-- The phrase of a reason's number is the phrase of that reason, as bytes.
 pub phrase-at : (r : Reason) → phraseAt (numberOf r) ≡ byteText (phraseOf r)
 phrase-at tooShort = refl
 phrase-at magic = refl

@@ -79,7 +79,7 @@ pub guarded-passed : {A : Type 0} (v : Verdict) (o : Outcome A) (a : A) → guar
 guarded-passed Passed o a e = (refl, e)
 guarded-passed (Failed n) o a e = absurd (two-ways e)
 
--- So where a value comes after them: it is the value that is accepted.
+-- Where a value comes after tests, something is accepted only where they pass, and it is that value.
 pub guarded-accepted : {A : Type 0} (v : Verdict) (a b : A) → guarded v (accepted b) ≡ accepted a → (v ≡ Passed) × (b ≡ a)
 guarded-accepted v a b e = let p = guarded-passed v (accepted b) a e in (p .0, same (p .1))
   where

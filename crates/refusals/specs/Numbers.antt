@@ -46,6 +46,7 @@ numberOf listLengths = 42
 numberOf noPair = 43
 numberOf noSuchSong = 44
 
+-- The number of every reason is above 0.
 pub number-above : (r : Reason) → 0 < numberOf r
 number-above tooShort = lit< tt
 number-above magic = lit< tt

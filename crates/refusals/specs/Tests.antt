@@ -1,11 +1,11 @@
 -- Document 01, 'PSID and RSID': 'Tests in this order; the first that applies answers.' So for every ordered
 -- list of tests.
--- Test, test a reason beside the condition under which it applies
--- firstOf   the verdict of a list of tests: the number of the first that applies
--- None      none of a list of tests applies
--- guarded   tests before an outcome: a refusal at place 0, or that outcome
--- andThen   what comes after a part that is accepted; a refusal stands
--- tested    the verdict after one more test, for code that makes its tests one by one
+-- Test, test   a reason beside the condition under which it applies
+-- firstOf      the verdict of a list of tests: the number of the first that applies
+-- None         none of a list of tests applies
+-- guarded      tests before an outcome: a refusal at place 0, or that outcome
+-- andThen      what comes after a part that is accepted; a refusal stands
+-- tested       the verdict after one more test, for code that makes its tests one by one
 use Prim.Native.Nat.{ℕ}
 use mathlib.Core.Path.{_≡_}
 use mathlib.Core.Bool.{Bool, false, cond}

@@ -49,7 +49,7 @@ tested-once (answer.Passed x p) (answer.Refused y) e = absurd (two-ways (sym e))
 tested-once (answer.Refused x) (answer.Passed y q) e = absurd (two-ways e)
 tested-once (answer.Refused x) (answer.Refused y) e = ap answer.Refused (refused-once {X = Passing} x y e)
 
--- A header that is made after the tests stands where they pass; a refusal stays.
+-- Making the header after the tests or inside them is the same.
 pub headed-guarded : (f : List ℕ) (v : Verdict) (o : Outcome Passing) → headed f (guarded v o) ≡ guarded v (headed f o)
 headed-guarded f Passed o = refl
 headed-guarded f (Failed n) o = refl

@@ -8,5 +8,6 @@ use mir.Syntax.{w32}
 use mir.Val.{toZ, ofZ}
 use mir.Facts.{toZ-ofZ}
 
+-- A signed number whose size is below 2^31 comes back from its 32 bits.
 pub kept : (z : ℤ) → mag z < 2 ^ 31 → toZ w32 (ofZ w32 z) ≡ z
 kept z h = toZ-ofZ (record { sfits = h })

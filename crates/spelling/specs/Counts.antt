@@ -1,13 +1,13 @@
 -- Source 004's VALUE columns read backwards, for values that have no sign: the two bytes of a value, or 43.
--- pair, noBytes     the two bytes; 43, 'no pair has this meaning'
--- bumped            BMP: 03 UP, 0B DN
--- switched, onlyYes NO and YES, each with its second byte; 3-0, which has YES alone
--- counted           first byte 01, the value in the second byte's upper bits
--- phrase            CAL and DEF: 0 to 15 in one row, 17 to 23 in another
--- destination       DST: '000=0, 010=1, 101=2, 110=3'
--- alone             'Second byte is the value'
--- joined            'the first byte's bits stand above the second byte'
--- tempo             'TEM 0 means 256'
+-- pair, noBytes       the two bytes; 43, 'no pair has this meaning'
+-- bumped              BMP: 03 UP, 0B DN
+-- switched, onlyYes   NO and YES, each with its second byte; 3-0, which has YES alone
+-- counted             first byte 01, the value in the second byte's upper bits
+-- phrase              CAL and DEF: 0 to 15 in one row, 17 to 23 in another
+-- destination         DST: '000=0, 010=1, 101=2, 110=3'
+-- alone               'Second byte is the value'
+-- joined              'the first byte's bits stand above the second byte'
+-- tempo               'TEM 0 means 256'
 use Prim.Native.Nat.{ℕ, _+_, _*_, _-_, _/_, _%_}
 use mathlib.Core.Bool.{Bool, true, false, _&&_, _||_, cond}
 use lib.Dec.{eqb, leb, ltb}

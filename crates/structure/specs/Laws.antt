@@ -22,7 +22,7 @@ clear-both : (v : Verdict) (i : ℕ) (f : Finding) → foundAt v i f ≡ Clear �
 clear-both Passed i f e = (refl, e)
 clear-both (Failed n) i f e = absurd (let z : _≡_ {A = ℕ} 0 1 = cc in omega arith)
 
--- where they find nothing, none of them applies to any pair
+-- Where tests made pair by pair find nothing, none of them applies to any pair.
 pub clear-none : (i : ℕ) (tss : List (List Test)) → firstAt i tss ≡ Clear → AllNone tss
 unfolding firstAt AllNone
 clear-none i [] e = tt
@@ -30,7 +30,7 @@ clear-none i (ts ∷ later) e =
     let both = clear-both (firstOf ts) i (firstAt (i + 1) later) e in
     (passed-none ts (both .0), clear-none (i + 1) later (both .1))
 
--- where none of them applies to any pair, they find nothing
+-- Where none of the tests applies to any pair, they find nothing.
 pub none-clear : (i : ℕ) (tss : List (List Test)) → AllNone tss → firstAt i tss ≡ Clear
 unfolding firstAt AllNone
 none-clear i [] h = refl
@@ -55,12 +55,12 @@ unfolding nestingsTests
 length-nestings-tests o [] = refl
 length-nestings-tests o (m ∷ ms) = ap suc (length-nestings-tests (nestingAfter (kindOf m) o) ms)
 
--- the pair at which 27 to 29 refuse a voice is one of its pairs
+-- The pair at which 27 to 29 refuse a voice is one of its pairs.
 pub pairs-within : (v : List (Outcome Meaning)) (n i : ℕ) → pairsFinding v ≡ At n i → i < length v
 unfolding pairsFinding
 pairs-within v n i e = omega (arith, found-within 0 (pairsTests v) n i e, length-pairs-tests v)
 
--- and so is that of 30 and 31
+-- The pair at which 30 or 31 refuses a voice is one of its pairs.
 pub structure-within : (v : List (Outcome Meaning)) (n i : ℕ) → structureFinding v ≡ At n i → i < length v
 unfolding structureFinding
 structure-within v n i e = omega (arith, found-within 0 (nestingsTests start v) n i e, length-nestings-tests start v)

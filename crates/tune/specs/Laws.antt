@@ -7,8 +7,8 @@
 -- payload-shown  and the payload has as many bytes as its header says
 -- same-bytes     where the file lies in memory says nothing: of the same bytes and the same header the parts
 --                are the same
--- part-length    whatever the place, by hand or not: of its bytes those that lie in the file, so none where
---                it begins past the end
+-- part-length    a part of any place, also one made by hand, has those of its bytes that lie in the file, so
+--                none where it begins past the end
 -- part-byte      byte i of a part is byte i of the file from the part's first byte on
 use Prim.Native.Nat.{ℕ, _+_, _-_, _<_, min}
 use mathlib.Core.Path.{_≡_, refl, subst, _∙_}
@@ -57,7 +57,7 @@ pub same-bytes : (s s′ : RefT (List ℕ)) (h : Header) (p : Piece) → now s �
     → partOf (now (tuneOf s h .file)) (placeIn (tuneOf s h) p) ≡ partOf (now (tuneOf s′ h .file)) (placeIn (tuneOf s′ h) p)
 same-bytes s s′ h p e = rw (place-span s h p, place-span s′ h p, e)
 
--- Whatever the place, by hand or not: a part has of its bytes those that lie in the file.
+-- A part of any place, also one made by hand, has those of its bytes that lie in the file.
 pub part-length : (f : List ℕ) (place : Span) → length (partOf f place) ≡ min (place .len) (length f - place .from)
 part-length f place = simp (length-take, length-drop)
 

@@ -1,6 +1,7 @@
 -- What the walk may count on, for its contract.
--- Listable   the voice is one that acceptance let pass, and so many events from the first one asked for on
---            are there
+-- Listable   none of 27 to 33 applies to the voice; it has at most 65,536 bytes and begins at most at 65,536;
+--            so many events from the first one asked for on are there, and so many cells in each list; the
+--            pairs walked are those of the definition
 use Prim.Native.Nat.{ℕ, _-_, _≤_}
 use mathlib.Core.Path.{_≡_}
 use mathlib.Core.List.{List}
