@@ -22,7 +22,7 @@ enum Checked {
 const NAME: usize = 8192;
 
 // Longer than any accepted file, so that what is cut off changes no answer: the law `judged-cut` of
-// crates/card/proofs/CutOff.antt.
+// crates/card/specs/CutOff.antt.
 const FILE: usize = 66000;
 
 fn accept_tune(file: &[u8], h: Header) -> Checked {

@@ -45,15 +45,15 @@ twelves q AbsolutePitch = inl (0, refl)
 sixes : (q : Values) (d : Duration) → (k : ℕ) × (plainLength q d ≡ 6 * k)
 sixes q d = ⊎-elim (λ k. (2 * k .0, omega (arith, k .1))) (λ e. (q .tempo, rw e (omega arith))) (twelves q d)
 
--- 'dotted 3/2'
+-- 'dotted 3/2': a dotted length is exactly 3/2 of the plain one.
 pub dotted-exact : (q : Values) (d : Duration) → 2 * shaped Dotted (plainLength q d) ≡ 3 * plainLength q d
 dotted-exact q d = rw (sixes q d .1) (omega arith)
 
--- 'triplet 2/3'
+-- 'triplet 2/3': a triplet's length is exactly 2/3 of the plain one.
 pub triplet-exact : (q : Values) (d : Duration) → 3 * shaped Triplet (plainLength q d) ≡ 2 * plainLength q d
 triplet-exact q d = rw (sixes q d .1) (omega arith)
 
--- 'double dotted 7/4'
+-- 'double dotted 7/4': a double dotted length is exactly 7/4 of the plain one, for every duration but a 64th.
 pub double-dotted-exact : (q : Values) (d : Duration) → (d ≡ SixtyFourth → ⊥) → 4 * shaped DoubleDotted (plainLength q d) ≡ 7 * plainLength q d
 double-dotted-exact q d n = ⊎-elim (λ k. rw (k .1) (omega arith)) (λ e. absurd (n e)) (twelves q d)
 
@@ -114,7 +114,7 @@ undotted Triplet = true
 abbrev readShape : ℕ → Bool
 readShape a = not (eqb (partsOfWhole (Reading.lengthInByte a .duration)) 64) || undotted (Reading.lengthInByte a .shape)
 
--- 'Code 0 otherwise is a 64th, triplet when bit 7 is set, and never dotted'
+-- 'Code 0 otherwise is a 64th, triplet when bit 7 is set, and never dotted': a 64th is plain or a triplet.
 pub never-dotted : (a : ℕ) → a < 256 → Reading.lengthInByte a .duration ≡ SixtyFourth → (Reading.lengthInByte a .shape ≡ Plain) ⊎ (Reading.lengthInByte a .shape ≡ Triplet)
 never-dotted a h e = go (Reading.lengthInByte a .shape) (rw e at (every-at readShape 256 tt a h))
   where
@@ -125,7 +125,7 @@ never-dotted a h e = go (Reading.lengthInByte a .shape) (rw e at (every-at readS
     go Triplet t = inr refl
 
 -- 'Time is in 384ths of a jiffy: with tempo t a whole note is 384t, each next value half of that': whole
--- ones, since each length is the fraction that the paper names of the length that it names
+-- ones, since each length is the fraction that the paper names of the length that it names.
 pub exact : (q : Values) (a b : ℕ) → a < 256
     → (denominator (noteOf a b .shape) * noteLength q (noteOf a b) ≡ numerator (noteOf a b .shape) * plainLength q (noteOf a b .duration))
     × (partsOfWhole (noteOf a b .duration) * plainLength q (noteOf a b .duration) ≡ wholeOf q (noteOf a b .duration))
@@ -159,7 +159,8 @@ same-time ms ns i j e = ap (λ (t : ℕ). t / 384) e
 abbrev pub eightNotes : List (Outcome Meaning)
 eightNotes = replicate 8 (meaningOf 0x20 0x00) ++ (meaningOf 0x01 0x4F ∷ [])
 
--- 'Dropping fractions note by note (eight 64ths at t = 120 take 15 jiffies, not 8)'
+-- 'Dropping fractions note by note (eight 64ths at t = 120 take 15 jiffies, not 8)': the exact sum gives 15,
+-- the sum of the rounded lengths 8.
 pub eight-64ths : (jiffyOf eightNotes 8 ≡ 15) × (sum (map (λ (x : ℕ). x / 384) (take 8 (lengths atStart eightNotes))) ≡ 8)
 unfolding jiffyOf timeOf sum lengths lengthOf valuesAfter
 eight-64ths = (refl, refl)

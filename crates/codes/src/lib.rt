@@ -8,7 +8,7 @@ mod commands;
 pub mod notes;
 
 // internal: the code of a meaning. One line a case, in source 004's order.
-// It is one-to-one for the meanings that some pair has, and for no more: P-S 65,537 has the code of P-S -1.
+// It is one-to-one for the meanings that some pair has, and not for all: P-S 65,537 has the code of P-S -1.
 pub fn code_of(meaning: Meaning) -> u64
     ensures { λ r. ⌜ r ≡ codeOf meaning ⌝ }
 {

@@ -126,7 +126,7 @@ pub head-none : (f : List ℕ) (v : Voices) → headOutcome f ≡ accepted v →
 unfolding headOutcome
 head-none f v e = let p = guarded-accepted (firstOf (headTests (headOf f))) v (voicesOf (headOf f)) e in (passed-none (headTests (headOf f)) (p .0), p .1)
 
--- '22: over 65,536 bytes'
+-- '22: over 65,536 bytes': such a file is refused with 22, at place 0.
 pub long-head : (f : List ℕ) → 65536 < length f → headOutcome f ≡ refused 22 0
 unfolding headOutcome headOf
 long-head f h = rw (le-ltb (length f) 8 (omega arith), lt-ltb 65536 (length f) h)

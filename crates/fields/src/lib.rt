@@ -76,7 +76,8 @@ pub fn part(s: &[u8], from: usize, len: usize) -> &[u8]
     }
 }
 
-// internal: the bytes that a span names; of them those that lie in the slice.
+// The bytes of a file that a span names; of them those that lie in the file. Headers and the answers to text
+// lines give spans.
 pub fn span_part(s: &[u8], span: Span) -> &[u8]
     ensures { λ r. ⌜ now r ≡ partOf (now (s .entry)) span ⌝ }
 {

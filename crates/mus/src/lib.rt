@@ -45,8 +45,8 @@ pub enum VoiceAnswer {
     Refused(Refusal),
 }
 
-// The answer to a text line: where it lies, without the $0D that closes it; that there is no line of that
-// number; or the file's refusal.
+// The answer to a caller who names a text line: where it lies, without the $0D that closes it; that there is
+// no line of that number; or the file's refusal.
 pub enum LineAnswer {
     At(Span),
     NoSuchLine,
@@ -77,8 +77,8 @@ pub fn read_voice(file: &[u8], number: u32) -> VoiceAnswer
     }
 }
 
-// A text line of an accepted file by its number, 1 to 5: where it lies in the file. Refused with the file's
-// own refusal, else for any other number there is no such line.
+// A text line of an accepted file by its number, 1 to 5: where it lies in the file. A refused file is
+// answered with its own refusal. For any other number there is no such line.
 pub fn text_line(file: &[u8], number: u64) -> LineAnswer
     ensures { λ r. ⌜ outcomeOfLine r ≡ lineAsked (now (file .entry)) number ⌝ }
 {

@@ -127,7 +127,7 @@ pub fn voice_of(song: Song, n: u32) -> Voice
     song.voice3
 }
 
-// internal: where a line lies, by its number from 1 to 5.
+// internal: where a line lies, by its number from 1 to 5; for any other number that there is no such line.
 pub fn line_of(song: Song, number: u64) -> LineAnswer
     ensures { λ r. ⌜ outcomeOfLine r ≡ accepted (songLine song number) ⌝ }
 {

@@ -34,7 +34,7 @@ pub fn reason(number: u32, out: &mut [u8]) -> usize
         no song, more than 256 songs, or a start song past the last\n\
         reserved flag bits or the reserved word are set\n\
         it is marked as a MUS song that needs a player: use the MUS file itself\n\
-        there is no byte to load behind the header\n\
+        there is no byte to load after the header\n\
         the payload runs past the end of memory, $FFFF\n\
         an RSID that loads below $07E8\n\
         an RSID whose init address is not allowed\n\

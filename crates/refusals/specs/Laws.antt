@@ -35,7 +35,7 @@ pub none-passed : (ts : List Test) → None ts → firstOf ts ≡ Passed
 none-passed [] h = refl
 none-passed (t ∷ ts) h = rw (h .0) (none-passed ts (h .1))
 
--- 'the first that applies answers'
+-- 'the first that applies answers': where no test before it applies, a test that applies gives its number.
 pub first-answers : (before after : List Test) (r : Reason) → None before
     → firstOf (before ++ test r true ∷ after) ≡ Failed (numberOf r)
 first-answers [] after r h = refl

@@ -1,6 +1,7 @@
 -- Laws of loading.
 -- load-headed     the outcome of the tests, with the header made, is that of the call
 -- memory-loaded   an accepted file puts its payload into a memory of 65,536 cells, and nothing else
+-- memory-refused  a refusal changes no cell
 -- memory-length   loading never changes how many cells there are
 use Prim.Native.Nat.{ℕ}
 use mathlib.Core.Path.{_≡_, refl, ap, _∙_}
@@ -34,6 +35,11 @@ load-headed f cells o e =
 pub memory-loaded : (f m : List ℕ) (h : Header) → length m ≡ 65536 → sidOutcome f ≡ accepted h → memoryAfter f m ≡ put m (h .load) (partOf f (h .payload))
 unfolding memoryAfter loadOutcome
 memory-loaded f m h size e = rw (eq-eqb (length m) 65536 size, e)
+
+-- A refusal 'changes no lent memory': every cell is then as it stood.
+pub memory-refused : (f m : List ℕ) (n place : ℕ) → loadOutcome f (length m) ≡ refused n place → memoryAfter f m ≡ m
+unfolding memoryAfter
+memory-refused f m n place e = rw e
 
 -- Loading never changes how many cells there are.
 pub memory-length : (f m : List ℕ) → length (memoryAfter f m) ≡ length m

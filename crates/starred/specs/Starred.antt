@@ -117,7 +117,7 @@ abbrev pub AllHold : List Sum → Type 0
 AllHold [] = Unit
 AllHold (s ∷ ss) = Holds s × AllHold ss
 
--- 'The starred cases stand as one table under a single proved statement'
+-- 'The starred cases stand as one table under a single proved statement': each row of the table holds.
 pub starred-hold : AllHold starred
 unfolding be16 be32 le16 sidOutcome sidTests fieldsOf payloadOf headerOf initOf barredInit badPages anyPage
 starred-hold = (ok, ((λ a h. rw h, ok), ((λ b. ok), ((λ b. ok), ((λ b. ok), ((λ b. ok), (ok, (ok, (ok, (ok, (ok, ((λ a h. rw h, ok), ((λ a h. rw h, ok), (ok, (ok, ((ok, ok), ((ok, ok), ((ok, ok), ((ok, ok), ((ok, ok), ((ok, ok), ((ok, ok), tt))))))))))))))))))))))

@@ -19,7 +19,8 @@ fn unless_last(last: bool) -> Verdict
     }
 }
 
-// internal: the first of 27 to 29 that applies to a pair, which is the voice's last or not.
+// internal: the first of 27 to 29 that applies to a pair, which is the voice's last or not. Callers see that
+// a refused pair's number is 27 or 28.
 pub fn test_pair(kind: Kind, last: bool) -> Verdict
     requires { ⌜ Numbered kind ⌝ }
     ensures { λ r. ⌜ r ≡ firstOf (pairTests kind last) ⌝ }

@@ -1,7 +1,7 @@
 // A PSID or RSID file as one thing: the lent file with where its title, author, released text and payload lie
 // in it. The struct holds a reference, so the functions over it are few and thin: each takes it apart and
 // leaves the work to `fields::span_part`.
-// `shown` has plain parameters: who calls it meets no such struct.
+// `shown` has plain parameters: whoever calls it meets no such struct.
 ghost use mathlib.Core.Path.{_≡_};
 ghost use Rattle.fields.specs.Parts.{partOf};
 ghost use Rattle.tune.specs.Tune.{spanOf, tuneOf};
@@ -16,8 +16,8 @@ pub enum Piece {
     Payload,
 }
 
-// The file as it was lent, and where its parts lie. It may be made by hand: a part has of its place the bytes
-// in the file.
+// The file as it was lent, and where its parts lie. It may be made by hand: a part then has those bytes of
+// its place that lie in the file.
 pub struct Tune<'a> {
     pub file: &'a [u8],
     pub title: Span,
@@ -60,7 +60,7 @@ pub fn released<'a>(t: Tune<'a>) -> &'a [u8]
     fields::span_part(t.file, t.released)
 }
 
-// The payload without its two address bytes, a part of the lent file.
+// The payload, a part of the lent file; without the two address bytes, where the data begin with them.
 pub fn payload<'a>(t: Tune<'a>) -> &'a [u8]
     ensures { λ r. ⌜ now r ≡ partOf (now (t .entry .file)) (t .entry .payload) ⌝ }
 {

@@ -16,5 +16,6 @@ magic-take : (f : List ℕ) (n : ℕ) → 4 ≤ n → be32 (take n f) 0 ≡ be32
 unfolding be32 be16
 magic-take f n h = rw (getD-take n f 0 0 (omega arith), getD-take n f 1 0 (omega arith), getD-take n f 2 0 (omega arith), getD-take n f 3 0 (omega arith))
 
+-- The first n bytes of a file are judged as the whole file, for n from 65,663 to its length.
 pub judged-cut : (f : List ℕ) (n : ℕ) → 65663 ≤ n → n ≤ length f → judged (take n f) ≡ judged f
 judged-cut f n h k = rw (magic-take f n (omega arith), sid.cut-off f n h k, mus.song-cut-off f n (omega arith) (omega arith))
