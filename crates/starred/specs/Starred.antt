@@ -21,7 +21,7 @@ use Rattle.refusals.specs.Numbers.{Outcome}
 use Rattle.refusals.specs.Numbers.Outcome.{accepted, refused}
 use Rattle.refusals.specs.declared.Verdict.{Verdict}
 use Rattle.refusals.specs.declared.Verdict.the-variants.{Passed, Failed}
-use Rattle.refusals.specs.Tests.{guarded}
+use Rattle.refusals.specs.Tests.{firstOf}
 use Rattle.meaning.specs.declared.Duration.{Duration}
 use Rattle.meaning.specs.declared.Duration.the-variants.{Quarter, SixtyFourth}
 use Rattle.meaning.specs.declared.Shape.{Shape}
@@ -44,7 +44,6 @@ use Rattle.sidheader.specs.Payload.{payloadOf, initOf}
 use Rattle.sidrefusals.specs.Pages.{anyPage, badPages}
 use Rattle.sidrefusals.specs.PayloadTests.{barredInit, sidTests}
 use Rattle.sid.specs.Header.{headerOf}
-use Rattle.sid.specs.Answers.{sidOutcome}
 use Rattle.sid.specs.Acceptance.{header}
 
 pub data Sum : Type 0 where
@@ -82,10 +81,9 @@ Holds (lasts a d s t) = (b : ℕ) → meaningOf a b ≡ note d s t (toneOf b)
 Holds (sounds b p step) =
     ((a : ℕ) → eqb (a % 4) 0 ≡ true → meaningOf a b ≡ note (noteOf a b .duration) (noteOf a b .shape) (noteOf a b .tied) (Sounds p))
     × (stepOutcome p ≡ accepted step)
--- an RSID file: its effective init, and what reading it comes back with, its header or the refusal
+-- an RSID file: its effective init, and the first of tests 1 to 13 that applies to its 130 bytes
 Holds (rsid effective init load verdict) =
-    (header (rsidFile init load) .init ≡ effective)
-    × (sidOutcome (rsidFile init load) ≡ guarded verdict (accepted (header (rsidFile init load))))
+    (header (rsidFile init load) .init ≡ effective) × (firstOf (sidTests (rsidFile init load)) ≡ verdict)
 
 abbrev pub starred : List Sum
 starred =
@@ -119,5 +117,5 @@ AllHold (s ∷ ss) = Holds s × AllHold ss
 
 -- 'The starred cases stand as one table under a single proved statement': each row of the table holds.
 pub starred-hold : AllHold starred
-unfolding be16 be32 le16 sidOutcome sidTests fieldsOf payloadOf headerOf initOf barredInit badPages anyPage
+unfolding be16 be32 le16 sidTests fieldsOf payloadOf headerOf initOf barredInit badPages anyPage
 starred-hold = (ok, ((λ a h. rw h, ok), ((λ b. ok), ((λ b. ok), ((λ b. ok), ((λ b. ok), (ok, (ok, (ok, (ok, (ok, ((λ a h. rw h, ok), ((λ a h. rw h, ok), (ok, (ok, ((ok, ok), ((ok, ok), ((ok, ok), ((ok, ok), ((ok, ok), ((ok, ok), ((ok, ok), tt))))))))))))))))))))))
