@@ -49,11 +49,14 @@ unplaced-fits e = omega arith
 
 module _ {A : Type 0} (value : A → ℕ) where
   -- '`answer >> 32` is 0 .., and the lower half is the value': so for a value below 2^32,
-  pub value-apart : (a : A) → Apart value (accepted a) → (upperHalf (packed value (accepted a)) ≡ 0) × (lowerHalf (packed value (accepted a)) ≡ value a)
+  pub value-apart : (a : A) → Apart value (accepted a)
+      → (upperHalf (packed value (accepted a)) ≡ 0) × (lowerHalf (packed value (accepted a)) ≡ value a)
   value-apart a h = (omega arith, omega arith)
 
   -- or 'the refusal's number, and the lower half is .. the place': so for a place below 2^32.
-  pub refusal-apart : (number place : ℕ) → Apart value (refused number place) → (upperHalf (packed value (refused number place)) ≡ number) × (lowerHalf (packed value (refused number place)) ≡ place)
+  pub refusal-apart : (number place : ℕ) → Apart value (refused number place)
+      → (upperHalf (packed value (refused number place)) ≡ number)
+      × (lowerHalf (packed value (refused number place)) ≡ place)
   refusal-apart number place h = (omega arith, omega arith)
 
   -- Where value and refusal are apart and the upper half is 0, the outcome is a value.

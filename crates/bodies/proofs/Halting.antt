@@ -15,7 +15,8 @@ use Rattle.meaning.specs.declared.Meaning.{Meaning}
 use Rattle.meaning.specs.declared.Meaning.the-variants as Meaning
 use Rattle.refusals.specs.Numbers.{Outcome}
 use Rattle.refusals.specs.Numbers.Outcome.{accepted}
-use Rattle.bodies.specs.Bodies.{Event, Closer, Body, done, event, repeat, phrase, call, bodyOf, Piece, one, HED, TAL, DEF, END, CAL, pieces, writtenOut}
+use Rattle.bodies.specs.Bodies.{Event, Closer, Body, done, event, repeat, phrase, call, bodyOf, Piece, one, HED}
+use Rattle.bodies.specs.Bodies.{TAL, DEF, END, CAL, pieces, writtenOut}
 use Rattle.bodies.specs.Playing.{interpret, learn, phrases, copies, playing, phrasesOf, played}
 use Rattle.bodies.specs.Order.{Sound}
 use Rattle.bodies.specs.Faithful.{NoHlt, EndsInHlt}
@@ -70,7 +71,8 @@ some : (xs : List Piece) (y : Piece) (ys : List Piece) → Empty (xs ++ y ∷ ys
 some [] y ys h = h
 some (x ∷ xs) y ys h = h
 
-ending-split : (n : ℕ) (xs : List Piece) (y : Piece) (ys : List Piece) → (Stops n y → ⊥) → Ending n (xs ++ y ∷ ys) → Quiet xs × Ending n ys
+ending-split : (n : ℕ) (xs : List Piece) (y : Piece) (ys : List Piece) → (Stops n y → ⊥) → Ending n (xs ++ y ∷ ys)
+    → Quiet xs × Ending n ys
 unfolding Quiet Ending
 ending-split n [] y ys other h = ⊎-elim (λ s. absurd (other (s .0))) (λ s. (tt, s .1)) h
 ending-split n (x ∷ xs) y ys other h =
@@ -89,7 +91,8 @@ quiet-played calls c (done d) h = tt
 quiet-played calls c (event e r) h = (h .0, quiet-played calls c r (h .1))
 quiet-played calls c (repeat t i r) h =
     let s = quiet-split (writtenOut i) TAL (writtenOut r) (h .1) in
-    no-hlt-append (copies t (interpret playing calls i)) _ (no-hlt-copies t _ (quiet-played calls c i (s .0))) (quiet-played calls c r (s .1))
+    no-hlt-append (copies t (interpret playing calls i)) _ (no-hlt-copies t _ (quiet-played calls c i (s .0)))
+    (quiet-played calls c r (s .1))
 quiet-played calls c (phrase k i r) h =
     let s = quiet-split (writtenOut i) END (writtenOut r) (h .1) in
     no-hlt-append (interpret playing calls i) _ (quiet-played calls c i (s .0)) (quiet-played calls c r (s .1))
@@ -135,29 +138,43 @@ module _ (n : ℕ) where
 
   within : (p y : Piece) (i r : Body) → (Stops n p → ⊥) → (Stops n y → ⊥) → Ending n (p ∷ (writtenOut i ++ y ∷ writtenOut r))
       → Quiet (writtenOut i) × Ending n (writtenOut r)
-  within p y i r first last h = ending-split n (writtenOut i) y (writtenOut r) last (opened p (writtenOut i ++ y ∷ writtenOut r) first h)
+  within p y i r first last h =
+      ending-split n (writtenOut i) y (writtenOut r) last (opened p (writtenOut i ++ y ∷ writtenOut r) first h)
 
-  ending-played : (calls : ℕ → List Event) → Calm calls → (b : Body) → Ending n (writtenOut b) → EndsInHlt (interpret playing calls b) n
+  ending-played : (calls : ℕ → List Event) → Calm calls → (b : Body) → Ending n (writtenOut b)
+      → EndsInHlt (interpret playing calls b) n
   unfolding writtenOut interpret Ending NoHlt
   ending-played calls c (done d) h = absurd h
   ending-played calls c (event e r) h =
       ⊎-elim
-      (λ s. record { before = []; last = e; split = ap (λ (l : List Event). e ∷ l) (only-end (λ (b : Body). interpret playing calls b ≡ []) (λ d. refl) r (s .1)); number = s .0 .0; halts = s .0 .1; only = tt })
+      (λ s. record {
+        before = [];
+        last = e;
+        split =
+            ap (λ (l : List Event). e ∷ l)
+            (only-end (λ (b : Body). interpret playing calls b ≡ []) (λ d. refl) r (s .1));
+        number = s .0 .0;
+        halts = s .0 .1;
+        only = tt;
+      })
       (λ s. halted-after (e ∷ []) (interpret playing calls r) (s .0, tt) (ending-played calls c r (s .1)))
       h
   ending-played calls c (repeat t i r) h =
       let s = within (HED t) TAL i r (λ x. x) (λ x. x) h in
-      halted-after (copies t (interpret playing calls i)) _ (no-hlt-copies t _ (quiet-played calls c i (s .0))) (ending-played calls c r (s .1))
+      halted-after (copies t (interpret playing calls i)) _ (no-hlt-copies t _ (quiet-played calls c i (s .0)))
+      (ending-played calls c r (s .1))
   ending-played calls c (phrase k i r) h =
       let s = within (DEF k) END i r (λ x. x) (λ x. x) h in
       halted-after (interpret playing calls i) _ (quiet-played calls c i (s .0)) (ending-played calls c r (s .1))
-  ending-played calls c (call k r) h = halted-after (calls k) _ (c k) (ending-played calls c r (opened (CAL k) (writtenOut r) (λ x. x) h))
+  ending-played calls c (call k r) h =
+      halted-after (calls k) _ (c k) (ending-played calls c r (opened (CAL k) (writtenOut r) (λ x. x) h))
 
   ending-phrases : (calls : ℕ → List Event) → Calm calls → (b : Body) → Ending n (writtenOut b) → Calm (phrases playing calls b)
   unfolding writtenOut phrases Ending
   ending-phrases calls c (done d) h = absurd h
   ending-phrases calls c (event e r) h =
-      ⊎-elim (λ s. only-end (λ (b : Body). Calm (phrases playing calls b)) (λ d. c) r (s .1)) (λ s. ending-phrases calls c r (s .1)) h
+      ⊎-elim (λ s. only-end (λ (b : Body). Calm (phrases playing calls b)) (λ d. c) r (s .1))
+      (λ s. ending-phrases calls c r (s .1)) h
   ending-phrases calls c (repeat t i r) h =
       let s = within (HED t) TAL i r (λ x. x) (λ x. x) h in
       ending-phrases (phrases playing calls i) (quiet-phrases calls c i (s .0)) r (s .1)

@@ -206,12 +206,16 @@ coded (M.Utl v) w = count-coded 0x216 v (alone-small v 0x16 255 w) refl refl ref
 coded (M.Pnt v) w = count-coded 0x226 v (alone-small v 0x26 255 w) refl refl refl
 coded (M.Hed v) w = count-coded 0x236 v (alone-small v 0x36 255 w) refl refl refl
 coded (M.Flg v) w = count-coded 0x246 v (alone-small v 0x46 255 w) refl refl refl
-coded (M.Ps z) w = signed-coded M.Ps 0x256 z (byte-small 0x56 z 128 127 (lit≤ tt) (lit≤ tt) w) refl (λ y. refl) (λ v. refl) (λ v. refl)
-coded (M.Fs z) w = signed-coded M.Fs 0x266 z (byte-small 0x66 z 128 127 (lit≤ tt) (lit≤ tt) w) refl (λ y. refl) (λ v. refl) (λ v. refl)
-coded (M.Sca z) w = signed-coded M.Sca 0x26E z (byte-small 0x6E z 7 7 (lit≤ tt) (lit≤ tt) w) refl (λ y. refl) (λ v. refl) (λ v. refl)
+coded (M.Ps z) w = signed-coded M.Ps 0x256 z (byte-small 0x56 z 128 127 (lit≤ tt) (lit≤ tt) w) refl (λ y. refl)
+    (λ v. refl) (λ v. refl)
+coded (M.Fs z) w = signed-coded M.Fs 0x266 z (byte-small 0x66 z 128 127 (lit≤ tt) (lit≤ tt) w) refl (λ y. refl)
+    (λ v. refl) (λ v. refl)
+coded (M.Sca z) w = signed-coded M.Sca 0x26E z (byte-small 0x6E z 7 7 (lit≤ tt) (lit≤ tt) w) refl (λ y. refl)
+    (λ v. refl) (λ v. refl)
 coded (M.Vdp v) w = count-coded 0x276 v (alone-small v 0x76 127 w) refl refl refl
 coded (M.Vrt v) w = count-coded 0x286 v (alone-small v 0x86 255 w) refl refl refl
-coded (M.Aut z) w = signed-coded M.Aut 0x296 z (byte-small 0x96 z 128 127 (lit≤ tt) (lit≤ tt) w) refl (λ y. refl) (λ v. refl) (λ v. refl)
+coded (M.Aut z) w = signed-coded M.Aut 0x296 z (byte-small 0x96 z 128 127 (lit≤ tt) (lit≤ tt) w) refl (λ y. refl)
+    (λ v. refl) (λ v. refl)
 coded (M.Tps z) w = signed-coded M.Tps 0x2A6 z (tps-small z w) refl (λ y. refl) (λ v. refl) (λ v. refl)
 coded (M.Aux v) w = count-coded 0x2B6 v (alone-small v 0xB6 255 w) refl refl refl
 coded (M.Pvd v) w = count-coded 0x2C6 v (alone-small v 0xC6 127 w) refl refl refl

@@ -24,7 +24,7 @@ use Rattle.meaning.specs.declared.Meaning.the-variants as M
 use Rattle.codes.specs.Coding.{durationDigits, shapeDigit, tieDigit, letterDigit, accidentalDigit, toneDigits, signed, codeOf}
 use Rattle.decoding.specs.Tables.{Entry, lookup, durations, shapes, ties, letters, accidentals, asSwitch, asBump, bare, above, below, unsignedCommands, negativeCommands}
 use Rattle.decoding.specs.Decoding.{toneAt, noteAt, commandAt, decoded}
-use Rattle.codelaws.proofs.Facts.{_and_}
+use Rattle.logic.specs.Facts.{_and_}
 
 abbrev Each : {A : Type 0} → (A → ℕ → Type 0) → List (Entry A) → Type 0
 Each P [] = Unit

@@ -1,4 +1,3 @@
-pub mod Facts
 pub mod Refused
 pub mod Decoding
 pub mod Sizes

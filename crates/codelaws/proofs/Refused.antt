@@ -21,7 +21,7 @@ use Rattle.commandsigns.specs.Signs.{outOfRange, signedByte, scaOutcome, tpsOut
 use Rattle.command.specs.Others.{upTo127, pulseRows, singleRows, joinedRows, rowFound, unassigned, joinedOutcome, otherOutcome}
 use Rattle.command.specs.RowLaws.{Each, found-holds}
 use Rattle.pair.specs.Pairs.{meaningOf}
-use Rattle.codelaws.proofs.Facts.{_and_}
+use Rattle.logic.specs.Facts.{_and_}
 
 abbrev pub PairRefused : Outcome Meaning → Type 0
 PairRefused (accepted m) = Unit

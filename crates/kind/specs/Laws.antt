@@ -15,6 +15,7 @@ use borrow.Author.Tests.{lt-ltb, ltb-true}
 use Rattle.meaning.specs.declared.Meaning.{Meaning}
 use Rattle.meaning.specs.declared.Meaning.the-variants.{Note, Sca, Vdp, Tps, Pvd, Pvr, Rtp, Jif}
 use Rattle.logic.specs.Cases.{cases}
+use Rattle.logic.specs.Facts.{_and_}
 use Rattle.logic.specs.Every.{every-at, all-left, all-right, true-of}
 use Rattle.refusals.specs.Numbers.{Outcome}
 use Rattle.refusals.specs.Numbers.Outcome.{accepted}
@@ -92,28 +93,56 @@ module _ (f : Kind → Bool) (event : T (f Event)) (none : T (f (Bad 27))) (out 
   up-to-127 v m h = picked Held (leb v 127) (accepted m) outOfRange (λ t. h) out
 
   sca : (v : ℕ) → Held (scaOutcome v)
-  sca v = picked Held (leZ (negsuc 6) (signedByte v) && leZ (signedByte v) (pos 7)) (accepted (Sca (signedByte v))) outOfRange (λ t. event) out
+  sca v = picked Held (leZ (negsuc 6) (signedByte v) && leZ (signedByte v) (pos 7))
+      (accepted (Sca (signedByte v))) outOfRange (λ t. event) out
 
   tps : (v : ℕ) → Held (tpsOutcome v)
   tps v = picked Held (ltb 11 (v / 16)) outOfRange (accepted (Tps (tpsValue v))) (λ t. out) event
 
   rtp : (v : ℕ) → Held (rtpOutcome v)
   rtp v =
-      picked Held (leb (v / 8) 22 && leZ (negsuc 46) (rtpValue v) && leZ (rtpValue v) (pos 47)) (accepted (Rtp (rtpValue v))) outOfRange (λ t. event) out
+      picked Held (leb (v / 8) 22 && leZ (negsuc 46) (rtpValue v) && leZ (rtpValue v) (pos 47))
+      (accepted (Rtp (rtpValue v))) outOfRange (λ t. event) out
 
   jif : (v : ℕ) → Held (jifOutcome v)
   jif v =
-      picked Held (leb v 757) (accepted (Jif (subℕ v 0))) (cond (leb v 823) outOfRange (accepted (Jif (subℕ v 1024)))) (λ t. event)
+      picked Held (leb v 757) (accepted (Jif (subℕ v 0))) (cond (leb v 823) outOfRange (accepted (Jif (subℕ v 1024))))
+      (λ t. event)
       (picked Held (leb v 823) outOfRange (accepted (Jif (subℕ v 1024))) (λ t. out) event)
 
   singles : (a b : ℕ) → T (f (Hed (0 * 256 + b))) → Each Held singleRows a b
   singles a b hed =
       let v = 0 * 256 + b in
-      (λ t. event, (λ t. event, (λ t. event, (λ t. hed, (λ t. event, (λ t. event, (λ t. event, (λ t. sca v, (λ t. up-to-127 v (Vdp v) event, (λ t. event, (λ t. event, (λ t. tps v, (λ t. event, (λ t. up-to-127 v (Pvd v) event, (λ t. up-to-127 v (Pvr v) event, (λ t. event, (λ t. event, (λ t. event, (λ t. rtp v, (λ t. event, tt))))))))))))))))))))
+      (λ t. event)
+      and (λ t. event)
+      and (λ t. event)
+      and (λ t. hed)
+      and (λ t. event)
+      and (λ t. event)
+      and (λ t. event)
+      and (λ t. sca v)
+      and (λ t. up-to-127 v (Vdp v) event)
+      and (λ t. event)
+      and (λ t. event)
+      and (λ t. tps v)
+      and (λ t. event)
+      and (λ t. up-to-127 v (Pvd v) event)
+      and (λ t. up-to-127 v (Pvr v) event)
+      and (λ t. event)
+      and (λ t. event)
+      and (λ t. event)
+      and (λ t. rtp v)
+      and (λ t. event)
+      and tt
 
   joineds : (a b : ℕ) → Each Held joinedRows a b
   joineds a b =
-      (λ t. event, (λ t. jif (number (byte Pattern.n Pattern.n Pattern.I Pattern.I Pattern.I Pattern.I Pattern.I Pattern.O) a * 256 + b), (λ t. event, (λ t. event, (λ t. event, tt)))))
+      (λ t. event)
+      and (λ t. jif (number (byte Pattern.n Pattern.n Pattern.I Pattern.I Pattern.I Pattern.I Pattern.I Pattern.O) a * 256 + b))
+      and (λ t. event)
+      and (λ t. event)
+      and (λ t. event)
+      and tt
 
   pair-passes : (a b : ℕ) → T (f (Hed (0 * 256 + b))) → Held (secondOutcome b) → Held (meaningOf a b)
   pair-passes a b hed second =
@@ -142,10 +171,12 @@ abbrev allKnown : List Row → ℕ → Bool
 allKnown [] b = true
 allKnown (r ∷ rs) b = rowKnown r b && allKnown rs b
 
-second-known : (rs : List Row) (b : ℕ) → T (allKnown rs b) → T (known (kindOf (commandMeaning (secondBy rs b .command) (secondBy rs b .value))))
+second-known : (rs : List Row) (b : ℕ) → T (allKnown rs b)
+    → T (known (kindOf (commandMeaning (secondBy rs b .command) (secondBy rs b .value))))
 second-known [] b t = tt
 second-known (r ∷ rs) b t =
-    cases (fitsRow r b) (λ e. rw e (all-left (rowKnown r b) (allKnown rs b) t)) (λ e. rw e (second-known rs b (all-right (rowKnown r b) (allKnown rs b) t)))
+    cases (fitsRow r b) (λ e. rw e (all-left (rowKnown r b) (allKnown rs b) t))
+    (λ e. rw e (second-known rs b (all-right (rowKnown r b) (allKnown rs b) t)))
 
 either : (s t : Bool) {A B : Type 0} → (T s → A) → (T t → B) → T (s || t) → A ⊎ B
 either true t f g h = inl (f tt)

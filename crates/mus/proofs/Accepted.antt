@@ -34,7 +34,8 @@ use Rattle.mus.specs.AcceptedVoice.{AcceptedVoice, ReportedVoice, Accept
 pub accepted-sound : (v : List (Outcome Meaning)) → Passes v → Sound v
 accepted-sound v p = sound v (p .pairs) (p .structure)
 
-voice-ends : (bs : List ℕ) → 1 < length bs → Passes (voice.pairs bs) → EndsInHlt (played (voice.pairs bs)) (length (voice.pairs bs))
+voice-ends : (bs : List ℕ) → 1 < length bs → Passes (voice.pairs bs)
+    → EndsInHlt (played (voice.pairs bs)) (length (voice.pairs bs))
 unfolding voice.pairs
 voice-ends [] h p = absurd (omega arith)
 voice-ends (a ∷ []) h p = absurd (omega arith)

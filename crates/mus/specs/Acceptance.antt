@@ -53,24 +53,30 @@ pub passes-voice : (offset : ℕ) (bs : List ℕ) → Passes (pairs bs) → voic
 unfolding voiceOutcome pairsFinding structureFinding
 passes-voice offset bs p =
     rw (none-clear 0 (pairsTests (pairs bs)) (p .pairs), none-clear 0 (nestingsTests start (pairs bs)) (p .structure))
-    (ap (λ (x : Verdict). limited offset (length bs) (unlessOff x (Within (eventsOf (pairs bs)) (walkedOf (pairs bs))))) (none-passed (limitTests (pairs bs)) (p .limits)))
+    (ap (λ (x : Verdict). limited offset (length bs)
+    (unlessOff x (Within (eventsOf (pairs bs)) (walkedOf (pairs bs)))))
+    (none-passed (limitTests (pairs bs)) (p .limits)))
 
-found-none : {A : Type 0} (offset : ℕ) (x : Finding) (o : Outcome A) (a : A) → orFound offset x o ≡ accepted a → (x ≡ Finding.Clear) × (o ≡ accepted a)
+found-none : {A : Type 0} (offset : ℕ) (x : Finding) (o : Outcome A) (a : A) → orFound offset x o ≡ accepted a
+    → (x ≡ Finding.Clear) × (o ≡ accepted a)
 found-none offset Finding.Clear o a e = (refl, e)
 found-none offset (Finding.At n i) o a e = absurd (two-ways e)
 
-limited-none : (offset len : ℕ) (x : Verdict) (events walked : ℕ) (v : Voice) → limited offset len (unlessOff x (Within events walked)) ≡ accepted v
+limited-none : (offset len : ℕ) (x : Verdict) (events walked : ℕ) (v : Voice)
+    → limited offset len (unlessOff x (Within events walked)) ≡ accepted v
     → (x ≡ Passed) × (record { offset = offset; length = len; events = events; walked = walked } ≡ v)
 limited-none offset len Passed events walked v e = (refl, cc)
 limited-none offset len (Failed n) events walked v e = absurd (two-ways e)
 
 -- An accepted voice is one to which none of 27 to 33 applies, and what is reported of it is voiceReport.
-pub voice-passes : (offset : ℕ) (bs : List ℕ) (v : Voice) → voiceOutcome offset bs ≡ accepted v → Passes (pairs bs) × (voiceReport offset bs ≡ v)
+pub voice-passes : (offset : ℕ) (bs : List ℕ) (v : Voice) → voiceOutcome offset bs ≡ accepted v
+    → Passes (pairs bs) × (voiceReport offset bs ≡ v)
 unfolding voiceOutcome pairsFinding structureFinding
 voice-passes offset bs v e =
     let one = found-none offset (pairsFinding (pairs bs)) _ v e in
     let two = found-none offset (structureFinding (pairs bs)) _ v (one .1) in
-    let three = limited-none offset (length bs) (firstOf (limitTests (pairs bs))) (eventsOf (pairs bs)) (walkedOf (pairs bs)) v (two .1) in (
+    let three = limited-none offset (length bs) (firstOf (limitTests (pairs bs))) (eventsOf (pairs bs))
+    (walkedOf (pairs bs)) v (two .1) in (
       record {
         pairs = clear-none 0 (pairsTests (pairs bs)) (one .0);
         structure = clear-none 0 (nestingsTests start (pairs bs)) (two .0);
@@ -93,7 +99,8 @@ abbrev voiceAt : List ℕ → Span → Voice
 voiceAt f s = voiceReport (s .from) (partOf f s)
 
 unfoldable pub songOf : List ℕ → Song
-songOf f = songWith (layoutOf f) (voiceAt f (layoutOf f .voice1)) (voiceAt f (layoutOf f .voice2)) (voiceAt f (layoutOf f .voice3))
+songOf f = songWith (layoutOf f) (voiceAt f (layoutOf f .voice1)) (voiceAt f (layoutOf f .voice2))
+    (voiceAt f (layoutOf f .voice3))
 
 -- A file to which none of 21 to 26 applies, nor any of 27 to 33 to one of its voices, is accepted, and what
 -- is reported of it is songOf.
@@ -101,7 +108,12 @@ pub clear-accepted : (f : List ℕ) → Clear f → musOutcome f ≡ accepted (s
 unfolding musOutcome songOf
 clear-accepted f c =
     let l = layoutOf f in
-    rw (none-layout f (c .container), passes-voice (l .voice1 .from) (partOf f (l .voice1)) (c .voice1), passes-voice (l .voice2 .from) (partOf f (l .voice2)) (c .voice2), passes-voice (l .voice3 .from) (partOf f (l .voice3)) (c .voice3))
+    rw (
+      none-layout f (c .container),
+      passes-voice (l .voice1 .from) (partOf f (l .voice1)) (c .voice1),
+      passes-voice (l .voice2 .from) (partOf f (l .voice2)) (c .voice2),
+      passes-voice (l .voice3 .from) (partOf f (l .voice3)) (c .voice3),
+    )
 
 -- A part is accepted with a value, and what comes after that value is accepted.
 pub record Given {A B : Type 0} (o : Outcome A) (g : A → Outcome B) (b : B) : Type 0 where
@@ -122,8 +134,11 @@ accepted-clear f s e =
     let right = then-given (containerOutcome f) (λ l. songIn f l) s e in
     let l = right .value in
     let lies : layoutOf f ≡ l = layout-of f l (right .was) in
-    let one = then-given (voiceIn f (l .voice1)) (λ v1. andThen (voiceIn f (l .voice2)) (λ v2. andThen (voiceIn f (l .voice3)) (λ v3. accepted (songWith l v1 v2 v3)))) s (right .gives) in
-    let two = then-given (voiceIn f (l .voice2)) (λ v2. andThen (voiceIn f (l .voice3)) (λ v3. accepted (songWith l (one .value) v2 v3))) s (one .gives) in
+    let one = then-given (voiceIn f (l .voice1))
+    (λ v1. andThen (voiceIn f (l .voice2))
+    (λ v2. andThen (voiceIn f (l .voice3)) (λ v3. accepted (songWith l v1 v2 v3)))) s (right .gives) in
+    let two = then-given (voiceIn f (l .voice2))
+    (λ v2. andThen (voiceIn f (l .voice3)) (λ v3. accepted (songWith l (one .value) v2 v3))) s (one .gives) in
     let three = then-given (voiceIn f (l .voice3)) (λ v3. accepted (songWith l (one .value) (two .value) v3)) s (two .gives) in
     let first = voice-passes (l .voice1 .from) (partOf f (l .voice1)) (one .value) (one .was) in
     let second = voice-passes (l .voice2 .from) (partOf f (l .voice2)) (two .value) (two .was) in
@@ -135,7 +150,8 @@ accepted-clear f s e =
         voice2 = subst (λ (x : Layout). Passes (pairs (partOf f (x .voice2)))) (sym lies) (second .0);
         voice3 = subst (λ (x : Layout). Passes (pairs (partOf f (x .voice3)))) (sym lies) (third .0);
       },
-      subst (λ (x : Layout). songWith x (voiceAt f (x .voice1)) (voiceAt f (x .voice2)) (voiceAt f (x .voice3)) ≡ s) (sym lies) (together l (first .1) (second .1) (third .1) ∙ song),
+      subst (λ (x : Layout). songWith x (voiceAt f (x .voice1)) (voiceAt f (x .voice2)) (voiceAt f (x .voice3)) ≡ s)
+          (sym lies) (together l (first .1) (second .1) (third .1) ∙ song),
     )
   where
     same : {t : Song} → accepted t ≡ accepted s → t ≡ s

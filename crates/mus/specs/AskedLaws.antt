@@ -74,12 +74,20 @@ take-own (suc n) [] = refl
 take-own (suc n) (x ∷ l) = ap (λ (r : List ℕ). x ∷ r) (take-own n l)
 
 -- a voice where its span lies; 23 lets no voice of 0 or an odd number of bytes pass
-span-in : (f : List ℕ) (s : Span) → Passes (pairs (partOf f s)) → length f ≤ 65536 → VoiceFits f s → InSong f (voiceReport (s .from) (partOf f s))
+span-in : (f : List ℕ) (s : Span) → Passes (pairs (partOf f s)) → length f ≤ 65536 → VoiceFits f s
+    → InSong f (voiceReport (s .from) (partOf f s))
 span-in f s p short fits =
     let own = take-own (s .len) (drop (s .from) f) in
     record {
       passes = rw own p;
-      stored = rw own (omega (arith, length-take (s .len) (drop (s .from) f), length-drop (s .from) f, fits .0, fits .1, fits .2));
+      stored = rw own (omega (
+        arith,
+        length-take (s .len) (drop (s .from) f),
+        length-drop (s .from) f,
+        fits .0,
+        fits .1,
+        fits .2,
+      ));
       short = short;
       low = omega (arith, fits .2);
       events = rw own;

@@ -53,7 +53,8 @@ module _ (f : List ℕ) (n : ℕ) where
   abbrev pub NamesLine : Span → Type 0
   NamesLine s = (1 ≤ n) × (n ≤ 5) × (partOf f s ≡ line f (voicesEnd (headOf f)) (n - 1))
 
-  named : (k : ℕ) (s t : Span) → k ≤ 4 → eqb n (k + 1) ≡ true → lies t ≡ lies s → partOf f t ≡ line f (voicesEnd (headOf f)) k → NamesLine s
+  named : (k : ℕ) (s t : Span) → k ≤ 4 → eqb n (k + 1) ≡ true → lies t ≡ lies s
+      → partOf f t ≡ line f (voicesEnd (headOf f)) k → NamesLine s
   named k s t small a e part =
       let is = eqb-true n (k + 1) a in
       let same : t ≡ s = cc in

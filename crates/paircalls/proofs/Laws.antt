@@ -61,7 +61,8 @@ write-apart n = go (written n) (answered n)
 write-refusals : (n : ℕ) → (upperHalf (writeAnswer n) ≡ 0) ⊎ (writeAnswer n ≡ refusedWith 43)
 write-refusals n = go (written n) (answered n) (write-apart n)
   where
-    go : (o : Outcome Bytes) → Answered n o → Apart bytesNumber o → (upperHalf (packed bytesNumber o) ≡ 0) ⊎ (packed bytesNumber o ≡ refusedWith 43)
+    go : (o : Outcome Bytes) → Answered n o → Apart bytesNumber o
+        → (upperHalf (packed bytesNumber o) ≡ 0) ⊎ (packed bytesNumber o ≡ refusedWith 43)
     go (accepted y) p low = inl (value-apart bytesNumber y low .0)
     go (refused number place) is low = inr (omega arith)
 
@@ -70,7 +71,11 @@ unpaired-refused n none = go (written n) (answered n)
   where
     go : (o : Outcome Bytes) → Answered n o → packed bytesNumber o ≡ refusedWith 43
     go (accepted y) p =
-        absurd (none record { meaning = p .meaning; pair = record { first = y .first; second = y .second; means = p .means }; code = p .code })
+        absurd (none record {
+          meaning = p .meaning;
+          pair = record { first = y .first; second = y .second; means = p .means };
+          code = p .code;
+        })
     go (refused number place) is = omega arith
 
 refused-unpaired : (n : ℕ) → writeAnswer n ≡ refusedWith 43 → CodeOfPair n → ⊥

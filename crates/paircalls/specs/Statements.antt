@@ -36,7 +36,8 @@ pub record PairAnswers : Type 0 where
   -- and none of tt_pair_write.
   pub write-apart : (n : ℕ) → Apart bytesNumber (written n)
   -- tt_pair_read answers a value, or 27 or 28 at place 0,
-  pub read-refusals : (a b : ℕ) → a < 256 → b < 256 → (upperHalf (readAnswer a b) ≡ 0) ⊎ ((readAnswer a b ≡ refusedWith 27) ⊎ (readAnswer a b ≡ refusedWith 28))
+  pub read-refusals : (a b : ℕ) → a < 256 → b < 256
+      → (upperHalf (readAnswer a b) ≡ 0) ⊎ ((readAnswer a b ≡ refusedWith 27) ⊎ (readAnswer a b ≡ refusedWith 28))
   -- and tt_pair_write a value, or 43 at place 0.
   pub write-refusals : (n : ℕ) → (upperHalf (writeAnswer n) ≡ 0) ⊎ (writeAnswer n ≡ refusedWith 43)
   -- tt_pair_write answers 43 for a number that is no code of a pair's meaning,
@@ -44,8 +45,10 @@ pub record PairAnswers : Type 0 where
   -- and for no other number.
   pub refused-unpaired : (n : ℕ) → writeAnswer n ≡ refusedWith 43 → CodeOfPair n → ⊥
   -- The code that was read from a pair is written as the pair that document 01 names for it,
-  pub read-write : (a b : ℕ) → a < 256 → b < 256 → upperHalf (readAnswer a b) ≡ 0 → writeAnswer (readAnswer a b) ≡ bytesNumber (preferred a b)
+  pub read-write : (a b : ℕ) → a < 256 → b < 256 → upperHalf (readAnswer a b) ≡ 0
+      → writeAnswer (readAnswer a b) ≡ bytesNumber (preferred a b)
   -- and that pair has the same code.
-  pub read-again : (a b : ℕ) → a < 256 → b < 256 → upperHalf (readAnswer a b) ≡ 0 → readAnswer (preferred a b .first) (preferred a b .second) ≡ readAnswer a b
+  pub read-again : (a b : ℕ) → a < 256 → b < 256 → upperHalf (readAnswer a b) ≡ 0
+      → readAnswer (preferred a b .first) (preferred a b .second) ≡ readAnswer a b
   -- The two bytes that were written for a code are read as that code.
   pub write-read : (n : ℕ) → upperHalf (writeAnswer n) ≡ 0 → readAnswer (writeAnswer n / 256) (writeAnswer n % 256) ≡ n

@@ -42,5 +42,6 @@ reading-and-writing = record {
   none-unwritten = none-unwritten;
   unwritten = λ m number place e. subst (ReadsBack m) e (reads-back m);
   preferred-means = λ m a b means. written-reads m (preferred a b .first) (preferred a b .second) (read-written m a b means);
-  same-preferred = λ m a b c d one other. same-bytes (preferred a b) (preferred c d) (sym (read-written m a b one) ∙ read-written m c d other);
+  same-preferred = λ m a b c d one other. same-bytes (preferred a b) (preferred c d)
+      (sym (read-written m a b one) ∙ read-written m c d other);
 }

@@ -38,7 +38,8 @@ pub picked-back : (m : Meaning) (t : Bool) (a b : ℕ) → (t ≡ true → Means
 picked-back m true a b f = f refl
 picked-back m false a b f = (refl, refl)
 
-picked-back-else : (m : Meaning) (t : Bool) (a b : ℕ) (x : Outcome Bytes) → (t ≡ true → Means m a b) → ReadsBack m x → ReadsBack m (cond t (pair a b) x)
+picked-back-else : (m : Meaning) (t : Bool) (a b : ℕ) (x : Outcome Bytes) → (t ≡ true → Means m a b) → ReadsBack m x
+    → ReadsBack m (cond t (pair a b) x)
 picked-back-else m true a b x f g = f refl
 picked-back-else m false a b x f g = g
 

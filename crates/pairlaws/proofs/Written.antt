@@ -26,7 +26,8 @@ use Rattle.commandtable.specs.Codes.{DCY, RUP, CAL, DEF, ATK, SUS, LFO, RDN, WA
 use Rattle.command.specs.Others.{tempoOf}
 use Rattle.spelling.specs.Counts.{pair, noBytes, destination, tempo}
 use Rattle.pair.specs.Pairs.{spellingOf}
-use Rattle.pairlaws.proofs.ValueKinds.{ReadsBack, at-value, counted-back, phrase-back, single-back, joined-back, signed-back}
+use Rattle.pairlaws.proofs.ValueKinds.{ReadsBack, at-value, counted-back, phrase-back, single-back}
+use Rattle.pairlaws.proofs.ValueKinds.{joined-back, signed-back}
 use Rattle.pairlaws.proofs.JoinedBack.{pw-written, ms-written, por-written, jif-back, dtn-back}
 use Rattle.pairlaws.proofs.SignedBack.{byte-up, byte-down, sca-up, sca-down, tps-back, rtp-back}
 

@@ -17,6 +17,7 @@ use mathlib.Core.List.{List, [], _∷_, _++_}
 use lib.Dec.{eqb}
 use lib.IntN.{ℤ, pos, negsuc}
 use lib.ListN.{replicate}
+use Rattle.logic.specs.Facts.{_and_}
 use Rattle.refusals.specs.Numbers.{Outcome}
 use Rattle.refusals.specs.Numbers.Outcome.{accepted, refused}
 use Rattle.refusals.specs.declared.Verdict.{Verdict}
@@ -79,7 +80,8 @@ Holds (means a b outcome) = meaningOf a b ≡ outcome
 Holds (lasts a d s t) = (b : ℕ) → meaningOf a b ≡ note d s t (toneOf b)
 -- a second byte: after every first byte of a note it is this pitch, and the pitch has this half-step
 Holds (sounds b p step) =
-    ((a : ℕ) → eqb (a % 4) 0 ≡ true → meaningOf a b ≡ note (noteOf a b .duration) (noteOf a b .shape) (noteOf a b .tied) (Sounds p))
+    ((a : ℕ) → eqb (a % 4) 0 ≡ true
+    → meaningOf a b ≡ note (noteOf a b .duration) (noteOf a b .shape) (noteOf a b .tied) (Sounds p))
     × (stepOutcome p ≡ accepted step)
 -- an RSID file: its effective init, and the first of tests 1 to 13 that applies to its 130 bytes
 Holds (rsid effective init load verdict) =
@@ -118,4 +120,27 @@ AllHold (s ∷ ss) = Holds s × AllHold ss
 -- 'The starred cases stand as one table under a single proved statement': each row of the table holds.
 pub starred-hold : AllHold starred
 unfolding be16 be32 le16 sidTests fieldsOf payloadOf headerOf initOf barredInit badPages anyPage
-starred-hold = (ok, ((λ a h. rw h, ok), ((λ b. ok), ((λ b. ok), ((λ b. ok), ((λ b. ok), (ok, (ok, (ok, (ok, (ok, ((λ a h. rw h, ok), ((λ a h. rw h, ok), (ok, (ok, ((ok, ok), ((ok, ok), ((ok, ok), ((ok, ok), ((ok, ok), ((ok, ok), ((ok, ok), tt))))))))))))))))))))))
+starred-hold =
+    ok
+    and (λ a h. rw h, ok)
+    and (λ b. ok)
+    and (λ b. ok)
+    and (λ b. ok)
+    and (λ b. ok)
+    and ok
+    and ok
+    and ok
+    and ok
+    and ok
+    and (λ a h. rw h, ok)
+    and (λ a h. rw h, ok)
+    and ok
+    and ok
+    and (ok, ok)
+    and (ok, ok)
+    and (ok, ok)
+    and (ok, ok)
+    and (ok, ok)
+    and (ok, ok)
+    and (ok, ok)
+    and tt

@@ -31,7 +31,8 @@ use Rattle.structure.specs.Tests.{isHlt, pairTests, start}
 use Rattle.structure.specs.Findings.{isLast, pairsTests, nestingsTests, AllNone}
 use Rattle.structure.proofs.Sound.{sound}
 
-pair-means : (o : Outcome Meaning) (last : Bool) (v : List (Outcome Meaning)) → ((n : ℕ) → kindOf o ≡ Kind.Bad n → (n ≡ 27) ⊎ (n ≡ 28))
+pair-means : (o : Outcome Meaning) (last : Bool) (v : List (Outcome Meaning))
+    → ((n : ℕ) → kindOf o ≡ Kind.Bad n → (n ≡ 27) ⊎ (n ≡ 28))
     → None (pairTests (kindOf o) last) → AllMean v → AllMean (o ∷ v)
 unfolding AllMean
 pair-means (accepted m) last v bad t h = h
@@ -42,7 +43,8 @@ pub all-mean : (bs : List ℕ) → AllNone (pairsTests (voice.pairs bs)) → All
 unfolding voice.pairs pairsTests AllNone AllMean
 all-mean [] t = tt
 all-mean (a ∷ []) t = tt
-all-mean (a ∷ b ∷ bs) t = pair-means (meaningOf a b) (isLast (voice.pairs bs)) (voice.pairs bs) (kind-bad a b) (t .0) (all-mean bs (t .1))
+all-mean (a ∷ b ∷ bs) t =
+    pair-means (meaningOf a b) (isLast (voice.pairs bs)) (voice.pairs bs) (kind-bad a b) (t .0) (all-mean bs (t .1))
 
 hlt-only : (o : Outcome Meaning) → isHlt (kindOf o) ≡ true → o ≡ accepted Meaning.Hlt
 hlt-only (refused n p) e = absurd (differ e)
@@ -117,12 +119,18 @@ quiet-piece e Kind.Hlt h = h
 quiet-piece e (Kind.Bad n) h = h
 
 -- the stored pairs from number i on, n in all
-stored-ending : (i n : ℕ) (m : Outcome Meaning) (v : List (Outcome Meaning)) → i + suc (length v) ≡ n → AllNone (pairsTests (m ∷ v)) → Ending n (pieces i (m ∷ v))
+stored-ending : (i n : ℕ) (m : Outcome Meaning) (v : List (Outcome Meaning)) → i + suc (length v) ≡ n
+    → AllNone (pairsTests (m ∷ v)) → Ending n (pieces i (m ∷ v))
 unfolding pieces piece pairsTests AllNone Ending
 stored-ending i n m [] e t =
-    inl (subst (λ (o : Outcome Meaning). Stops n (piece (eventAt i o) (kindOf o))) (sym (last-halts m (t .0 .1 .1 .0))) (omega arith, refl), tt)
+    inl (
+      subst (λ (o : Outcome Meaning). Stops n (piece (eventAt i o) (kindOf o)))
+          (sym (last-halts m (t .0 .1 .1 .0))) (omega arith, refl),
+      tt,
+    )
 stored-ending i n m (m′ ∷ v) e t =
     inr (quiet-piece (eventAt i m) (kindOf m) (early-none m (t .0 .1 .1 .0)), stored-ending (i + 1) n m′ v (omega arith) (t .1))
 
-pub voice-halts : (m : Outcome Meaning) (v : List (Outcome Meaning)) → AllNone (pairsTests (m ∷ v)) → AllNone (nestingsTests start (m ∷ v)) → EndsInHlt (played (m ∷ v)) (length (m ∷ v))
+pub voice-halts : (m : Outcome Meaning) (v : List (Outcome Meaning)) → AllNone (pairsTests (m ∷ v))
+    → AllNone (nestingsTests start (m ∷ v)) → EndsInHlt (played (m ∷ v)) (length (m ∷ v))
 voice-halts m v p n = ends-in-hlt (m ∷ v) (sound (m ∷ v) p n) (stored-ending 0 (length (m ∷ v)) m v (omega arith) p)

@@ -7,5 +7,6 @@ use lib.Dec.{eqb}
 use Rattle.refusals.specs.declared.Verdict.{Verdict}
 use Rattle.refusals.specs.declared.Verdict.the-variants.{Failed}
 
-pub bad-either : (n : ℕ) (v : Verdict) → (n ≡ 27) ⊎ (n ≡ 28) → Failed n ≡ cond (eqb n 27) (Failed 27) (cond (eqb n 28) (Failed 28) v)
+pub bad-either : (n : ℕ) (v : Verdict) → (n ≡ 27) ⊎ (n ≡ 28)
+    → Failed n ≡ cond (eqb n 27) (Failed 27) (cond (eqb n 28) (Failed 28) v)
 bad-either n v h = ⊎-elim (λ e. rw e) (λ e. rw e) h

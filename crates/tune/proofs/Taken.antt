@@ -213,7 +213,8 @@ module _ {M : Type 1} (𝓤 : URA M) (H : Heap 𝓤) (A : Atoms 𝓤) (W : Given
       suffices ! _ (ends-at 𝓤 H A title.ended stayed (promised 𝓤 H A mem run p) W (((κ, tt), (q, tt), tt, (t, tt), (mach ∷ [], tt)), tt) u r (tt, tt) (tt, tt)) $ says ! e $
       move ! (1 ∷ []) $ frame ! $ nothing ! $ move ! (2 ∷ 0 ∷ []) $ fjoin ! $ frame ! $ done !
 
-  module _ (C : Calls 𝓤 H) (Λ : Loops 𝓤 H) (fm : FmC 𝓤 H (W .laws) C) (known : Triple 𝓤 (C #fields·span-part) (Part 𝓤 H A mem run)) where
+  module _ (C : Calls 𝓤 H) (Λ : Loops 𝓤 H) (fm : FmC 𝓤 H (W .laws) C)
+      (known : Triple 𝓤 (C #fields·span-part) (Part 𝓤 H A mem run)) where
     walk : Holds (hasTy (T′.mir (named 0)) mach) × WT mach → ent 𝓤 (onEntry 𝓤 H A title.signature (κ, tt) (q, tt) (t, tt) (mach ∷ [], tt)) (WpFn 𝓤 H C Λ (taking p) (mach ∷ []) Post)
     walk wt =
         qed W (raw (onEntry 𝓤 H A title.signature (κ, tt) (q, tt) (t, tt) (mach ∷ [], tt)) ∷ []) ∵ enter ! C Λ (taking p) (mach ∷ []) _ $
@@ -240,7 +241,8 @@ module _ {M : Type 1} (𝓤 : URA M) (H : Heap 𝓤) (A : Atoms 𝓤) (W : Given
 -- itself, and what its contract ensures follows from what the walk shows
 pub taken : {M : Type 1} (𝓤 : URA M) (H : Heap 𝓤) (𝓜 : Model 𝓤 H) (𝓖 : GhostRules 𝓤 H) (𝓡 : Running 𝓤 H 𝓜) (p : Piece) (E : Ensures 𝓤 H (𝓖 .A) (𝓜 .mem) (𝓡 .run))
     → ((κs : Lfts 1) (a : Args title.signature κs) (g : Unit {0}) (r : RefT (List ℕ)) (ws : Lasts title.ended κs a) → ent 𝓤 (fact 𝓤 (now r ≡ partOf (now (a .0 .file)) (placeIn (a .0) p))) (E κs a g r (atExit title.ended κs a ws)))
-    → (γ : Env) (k : Name) → Closed 𝓤 H (tables 𝓤 H 𝓜 𝓡 γ .C) (tables 𝓤 H 𝓜 𝓡 γ .Λ) k (taking p) → γ #fields·span-part ≡ part-def.routine
+    → (γ : Env) (k : Name) → Closed 𝓤 H (tables 𝓤 H 𝓜 𝓡 γ .C) (tables 𝓤 H 𝓜 𝓡 γ .Λ) k (taking p) → γ #fields·span-part
+    ≡ part-def.routine
     → Triple 𝓤 (tables 𝓤 H 𝓜 𝓡 γ .C k) (tripleOf 𝓤 H (𝓖 .A) title.signature (closing 𝓤 H (𝓖 .A) title.ended (ensuring 𝓤 H (𝓖 .A) (𝓜 .mem) (𝓡 .run) E)))
 unfolding tablesOf
 taken 𝓤 H 𝓜 𝓖 𝓡 p E follows γ k unfolded calls =
@@ -250,4 +252,5 @@ taken 𝓤 H 𝓜 𝓖 𝓡 p E follows γ k unfolded calls =
     proved 𝓤 H 𝓜 𝓖 𝓡 title.ended stayed (goes-none 𝓤 H A W 1 TuneRow yes (λ κs x f. refl), tt) (ensuring 𝓤 H A (𝓜 .mem) (𝓡 .run) E) γ k (taking p) unfolded (λ fm.
     walk-weaken 𝓤 H A title.ended stayed W (promised 𝓤 H A (𝓜 .mem) (𝓡 .run) p) E (λ κs a g r ws _. follows κs a g r ws)
     (WpFn 𝓤 H (𝓣 .C) (𝓣 .Λ) (taking p)) (WpFn-mono 𝓤 H (W .laws) (tablesOf 𝓤 H 𝓜 𝓣) (taking p))
-    (walks 𝓤 H A W (𝓜 .mem) (𝓡 .run) p (𝓣 .C) (𝓣 .Λ) fm (cited 𝓤 H (Part 𝓤 H A (𝓜 .mem) (𝓡 .run)) 𝓜 𝓡 γ #fields·span-part part-def.routine calls (part-thm.met 𝓤 H 𝓜 𝓖 𝓡))))
+    (walks 𝓤 H A W (𝓜 .mem) (𝓡 .run) p (𝓣 .C) (𝓣 .Λ) fm
+    (cited 𝓤 H (Part 𝓤 H A (𝓜 .mem) (𝓡 .run)) 𝓜 𝓡 γ #fields·span-part part-def.routine calls (part-thm.met 𝓤 H 𝓜 𝓖 𝓡))))

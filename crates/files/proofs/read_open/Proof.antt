@@ -32,7 +32,8 @@ loop-again c =
     let all : length (part .part .result .now) ≡ lesser .lesser .result =
     rw (part .part .ensures) (simp (length-take, length-drop) (omega (arith, lesser .lesser .ensures, count .count .ensures .0)))
     in
-    let next = fill-next _ _ _ _ _ _ (loop .inv .0) (omega (arith, lesser .lesser .ensures)) all (c .before .before .copy-to .ensures) in
+    let next = fill-next _ _ _ _ _ _ (loop .inv .0) (omega (arith, lesser .lesser .ensures)) all
+    (c .before .before .copy-to .ensures) in
     (next, next .cells, search needs)
 
 pub read-open-spec : {M : Type 1} → statement M

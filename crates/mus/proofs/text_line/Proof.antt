@@ -12,7 +12,8 @@ use Rattle.mus.specs.Text.{songLine, lineAsked}
 use Rattle.mus.proofs.text_line.Statement.{statement}
 use Rattle.mus.proofs.text_line.Tie as tie
 
-line-answered : (f : List ℕ) (n : ℕ) (o : Outcome Song) → o ≡ musOutcome f → andThen o (λ s. accepted (songLine s n)) ≡ lineAsked f n
+line-answered : (f : List ℕ) (n : ℕ) (o : Outcome Song) → o ≡ musOutcome f
+    → andThen o (λ s. accepted (songLine s n)) ≡ lineAsked f n
 unfolding lineAsked
 line-answered f n o e = rw e
 
@@ -20,7 +21,9 @@ returns : tie.Need-returns
 returns c = line-answered _ _ _ (ap outcomeOfSong (sym (c .before .x .given .1)) ∙ c .before .before .before .accept .ensures)
 
 returns-2 : tie.Need-returns-2
-returns-2 c = c .line-of .ensures ∙ line-answered _ _ _ (ap outcomeOfSong (sym (c .before .before .song .given .1)) ∙ c .before .before .before .before .accept .ensures)
+returns-2 c = c .line-of .ensures
+    ∙ line-answered _ _ _ (ap outcomeOfSong (sym (c .before .before .song .given .1))
+    ∙ c .before .before .before .before .accept .ensures)
 
 pub text-line-spec : {M : Type 1} → statement M
 text-line-spec =

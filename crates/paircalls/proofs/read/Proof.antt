@@ -23,7 +23,9 @@ refused-requires : tie.Need-refused-requires
 refused-requires c κs =
     let a = c .before .before .before .before .before .args in
     unplaced-fits
-    (coding-and-decoding .pair-refused (a .first) (a .second) _ _ (sym (command-meant (a .first) (a .second) (c .before .before .before .before .if1 .left)) ∙ sym (c .before .before .before .read-command .ensures) ∙ ap outcomeOfMeaning (c .before .x .given .1)) .1)
+    (coding-and-decoding .pair-refused (a .first) (a .second) _ _
+    (sym (command-meant (a .first) (a .second) (c .before .before .before .before .if1 .left))
+    ∙ sym (c .before .before .before .read-command .ensures) ∙ ap outcomeOfMeaning (c .before .x .given .1)) .1)
 
 returns-2 : tie.Need-returns-2
 returns-2 c =

@@ -20,12 +20,14 @@ onward e = ap (λ (o : Outcome Meaning). packed bytesNumber (andThen o (λ m. sp
 refused-requires : tie.Need-refused-requires
 refused-requires c κs =
     unplaced-fits
-    (coding-and-decoding .undecoded (c .before .before .before .before .args .code) _ _ (sym (c .before .before .before .meaning-of .ensures) ∙ ap outcomeOfMeaning (c .before .x .given .1)) .1)
+    (coding-and-decoding .undecoded (c .before .before .before .before .args .code) _ _
+    (sym (c .before .before .before .meaning-of .ensures) ∙ ap outcomeOfMeaning (c .before .x .given .1)) .1)
 
 refused-requires-2 : tie.Need-refused-requires-2
 refused-requires-2 c κs =
     unplaced-fits
-    (reading-and-writing .unwritten (c .before .before .before .before .before .m .given .0 .0) _ _ (sym (c .before .before .before .write .ensures) ∙ ap outcomeOfBytes (c .before .x2 .given .1)) .1)
+    (reading-and-writing .unwritten (c .before .before .before .before .before .m .given .0 .0) _ _
+    (sym (c .before .before .before .write .ensures) ∙ ap outcomeOfBytes (c .before .x2 .given .1)) .1)
 
 returns : tie.Need-returns
 unfolding written
