@@ -1,3 +1,4 @@
 pub mod Judging
 pub mod Laws
+pub mod Kinds
 pub mod CutOff

@@ -1,9 +1,10 @@
-// What a file of a card is, found from its content: a PSID or RSID tune, a MUS song, or neither. The call
-// answers for every file.
+// What a file of a card is, found from its content: a PSID or RSID tune, a MUS song, or neither. The calls
+// answer for every file.
 ghost use mathlib.Core.Path.{_≡_};
 ghost use Rattle.sid.specs.Answers.{sidOutcome};
 ghost use Rattle.mus.specs.Song.{musOutcome};
 ghost use Rattle.card.specs.Judging.{judgementOf, asTune, asSong, judged};
+ghost use Rattle.card.specs.Kinds.{fileKind, numberOfKind};
 use container::Heading;
 use mus::Song;
 use refusals::Refusal;
@@ -18,6 +19,14 @@ pub enum Judged {
     Song(Song),
     RefusedSong(Refusal),
     Neither(Refusal),
+}
+
+// The kind of a file, accepted or not.
+pub enum FileKind {
+    Neither,
+    Psid,
+    Rsid,
+    Mus,
 }
 
 // A file that begins as a PSID or RSID.
@@ -54,5 +63,22 @@ pub fn judge(file: &[u8]) -> Judged
         as_tune(file, Kind::Rsid)
     } else {
         as_song(file)
+    }
+}
+
+// What a file is, accepted or not: its first four bytes, and of a file that is no tune its head.
+pub fn kind_of(file: &[u8]) -> FileKind
+    ensures { λ r. ⌜ numberOfKind r ≡ fileKind (now (file .entry)) ⌝ }
+{
+    let magic = fields::be32(file, 0);
+    if magic == sidheader::PSID {
+        return FileKind::Psid;
+    }
+    if magic == sidheader::RSID {
+        return FileKind::Rsid;
+    }
+    match container::read_head(file) {
+        Heading::Refused(_) => FileKind::Neither,
+        Heading::Fits(_) => FileKind::Mus,
     }
 }
