@@ -1,29 +1,28 @@
 // The reason for each number, in words for a person.
 ghost use mathlib.Core.Path.{_≡_};
-ghost use Prim.Native.Nat.{min};
 ghost use lib.ListN.{length};
 ghost use Rattle.fields.specs.Parts.{front};
 ghost use Rattle.reasons.specs.Phrases.{phraseAt};
 
-// A text into the first cells of a list, as much of it as fits; how many cells.
+// A text into the first cells of a list, as much of it as fits; the text's whole length.
 fn put(text: &[u8], out: &mut [u8]) -> usize
-    ensures { λ r. ⌜ r ≡ min (length (now (text .entry))) (length (now (out .entry))) ⌝ }
+    ensures { λ r. ⌜ r ≡ length (now (text .entry)) ⌝ }
     ensures { λ _. ⌜ now (out .exit) ≡ front (now (text .entry)) (now (out .entry)) ⌝ }
 {
     if out.len() < text.len() {
         let n = out.len();
         fields::copy_to(fields::part(text, 0, n), out, 0);
-        return n;
+        return text.len();
     }
     fields::copy_to(text, out, 0);
     text.len()
 }
 
-// Puts the phrase of a number into the first cells of a list, as much of it as fits, and answers how many
-// cells it took; nothing for a number that the table does not have. The phrases stand in the order of the
-// numbers, from 0 on, a line each.
+// Puts the phrase of a number into the first cells of a list, as much of it as fits, and answers the phrase's
+// whole length; nothing and 0 for a number that the table does not have. The phrases stand in the order of
+// the numbers, from 0 on, a line each.
 pub fn reason(number: u32, out: &mut [u8]) -> usize
-    ensures answer { λ r. ⌜ r ≡ min (length (phraseAt number)) (length (now (out .entry))) ⌝ }
+    ensures answer { λ r. ⌜ r ≡ length (phraseAt number) ⌝ }
     ensures cells { λ _. ⌜ now (out .exit) ≡ front (phraseAt number) (now (out .entry)) ⌝ }
 {
     let phrases = b"\ntoo short for a PSID or RSID header\n\
