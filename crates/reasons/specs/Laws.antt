@@ -85,14 +85,15 @@ table-tested : T (allTested table)
 table-tested = tt
 
 module _ (P : List ℕ → Type 0) (passes : (p : List ℕ) → T (tested p) → P p) where
-  -- what tested phrases have, the phrase of a number that a row has has
+  -- what holds of every tested phrase holds of the phrase of a number with a row
   row-found : (rs : List Reason) (n : ℕ) → T (allTested rs) → hasRow rs n ≡ true → P (found rs n)
   row-found [] n t e = absurd (let z : _≡_ {A = ℕ} 0 1 = cc in omega arith)
   row-found (r ∷ rs) n t e =
-      cases (eqb n (numberOf r)) (λ is. rw is (passes (byteText (phraseOf r)) (all-left (tested (byteText (phraseOf r))) (allTested rs) t)))
-      (λ no. rw no (row-found rs n (all-right (tested (byteText (phraseOf r))) (allTested rs) t) (rw no at e)))
+      let first = byteText (phraseOf r) in
+      cases (eqb n (numberOf r)) (λ is. rw is (passes first (all-left (tested first) (allTested rs) t)))
+      (λ no. rw no (row-found rs n (all-right (tested first) (allTested rs) t) (rw no at e)))
 
-  -- and, where an empty phrase has it, the phrase of every number
+  -- and, where it holds of an empty phrase too, of the phrase of every number
   each-found : P [] → (rs : List Reason) (n : ℕ) → T (allTested rs) → P (found rs n)
   each-found empty rs n t =
       cases (hasRow rs n) (λ has. row-found rs n t has) (λ no. subst P (sym (none-found rs n no)) empty)
