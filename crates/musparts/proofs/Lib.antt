@@ -1,0 +1,3 @@
+pub mod Refusals
+pub mod Accepted
+pub mod Laws

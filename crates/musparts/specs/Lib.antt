@@ -1,0 +1,5 @@
+pub mod Lists
+pub mod Bounds
+pub mod Laws
+pub mod LineLaws
+pub mod Statements
