@@ -1,6 +1,8 @@
 -- Of an accepted file tt_mus_voices and tt_mus_accept put out the same places.
 -- offsetsAndPairs   of twelve numbers, four for a voice, the first two for each
--- same-places       so of tt_mus_accept's numbers they are those of tt_mus_voices
+-- head-right        a file to which none of 21 to 26 applies has a value of tt_mus_voices
+-- part-length       a voice that lies in the file has as many bytes as its span says
+-- same-places       of an accepted file the two calls agree
 use Prim.Native.Nat.{ℕ}
 use mathlib.Core.Path.{_≡_}
 use mathlib.Core.List.{List, [], _∷_}
@@ -24,13 +26,13 @@ abbrev pub offsetsAndPairs : List ℕ → List ℕ
 offsetsAndPairs ns =
     getD ns 0 0 ∷ getD ns 1 0 ∷ getD ns 4 0 ∷ getD ns 5 0 ∷ getD ns 8 0 ∷ getD ns 9 0 ∷ []
 
--- none of 21 to 26 applies, so none of 21 to 24
-head-right : (f : List ℕ) → None (containerTests f) → headOutcome f ≡ accepted (voicesOf (headOf f))
+-- Where none of 21 to 26 applies, tt_mus_voices has a value: where the voices lie.
+pub head-right : (f : List ℕ) → None (containerTests f) → headOutcome f ≡ accepted (voicesOf (headOf f))
 unfolding containerTests headOutcome
 head-right f none = rw (none-passed (headTests (headOf f)) (none .0, (none .1 .0, (none .1 .1 .0, (none .1 .1 .1 .0, tt)))))
 
--- the bytes of a voice that lies in the file are as many as its span says
-part-length : (f : List ℕ) (s : Span) → VoiceFits f s → length (partOf f s) ≡ s .len
+-- The bytes of a voice that lies in the file are as many as its span says.
+pub part-length : (f : List ℕ) (s : Span) → VoiceFits f s → length (partOf f s) ≡ s .len
 part-length f s h = omega (arith, h .2, length-take (s .len) (drop (s .from) f), length-drop (s .from) f)
 
 -- An accepted file has a value of tt_mus_voices, and its six numbers are the offsets and the pairs among the
