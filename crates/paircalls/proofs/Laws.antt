@@ -1,7 +1,5 @@
--- The laws of the two calls of a pair, from those of pairs and of codes.
--- PairOf, Answered, answered   what is written for a number: a pair of its meaning, or 43 at place 0
--- code-written                 the code of a pair's meaning is written as the pair that document 01 names
--- pair-answers                 all the laws
+-- The laws of the calls of a pair, from those of pairs, of codes and of half-steps.
+-- pair-answers   all the laws
 use Prim.Native.Nat.{ℕ, _/_, _%_, _<_}
 use mathlib.Core.Path.{_≡_, refl, sym, _∙_, ap, subst}
 use mathlib.Core.Logic.{_⊎_, inl, inr, ⊎-elim}
@@ -22,34 +20,8 @@ use Rattle.answers.specs.Answers.{packed}
 use Rattle.answers.specs.Apart.{Apart, upperHalf, value-apart, zero-valued}
 use Rattle.paircalls.specs.Written.{bytesNumber, written}
 use Rattle.paircalls.specs.Statements.{readAnswer, writeAnswer, refusedWith, CodeOfPair, PairAnswers}
-
-record PairOf (n : ℕ) (y : Bytes) : Type 0 where
-  meaning : Meaning
-  means : Means meaning (y .first) (y .second)
-  code : codeOf meaning ≡ n
-
-abbrev Answered : ℕ → Outcome Bytes → Type 0
-Answered n (accepted y) = PairOf n y
-Answered n (refused number place) = (number ≡ 43) × (place ≡ 0)
-
-answered : (n : ℕ) → Answered n (written n)
-unfolding written
-answered n = go (decoded n) refl
-  where
-    spelled : (m : Meaning) → codeOf m ≡ n → (o : Outcome Bytes) → spellingOf m ≡ o → Answered n o
-    spelled m code (accepted y) e =
-        record { meaning = m; means = reading-and-writing .written-reads m (y .first) (y .second) e; code = code }
-    spelled m code (refused number place) e = reading-and-writing .unwritten m number place e
-
-    go : (o : Outcome Meaning) → decoded n ≡ o → Answered n (andThen o (λ m. spellingOf m))
-    go (accepted m) e = spelled m (coding-and-decoding .decoded-coded n m e) (spellingOf m) refl
-    go (refused number place) e = coding-and-decoding .undecoded n number place e
-
-code-written : (m : Meaning) (a b : ℕ) → Means m a b → written (codeOf m) ≡ accepted (preferred a b)
-unfolding written
-code-written m a b means =
-    let coded = coding-and-decoding .written-coded m record { first = a; second = b; means = means } in
-    ap (λ (o : Outcome Meaning). andThen o (λ k. spellingOf k)) (coded .back) ∙ reading-and-writing .read-written m a b means
+use Rattle.paircalls.proofs.Answered.{Answered, answered, code-written}
+use Rattle.paircalls.proofs.HalfSteps.{half-step-apart, half-step-refusals, tone-stepped, stepped-tone, read-step}
 
 write-apart : (n : ℕ) → Apart bytesNumber (written n)
 write-apart n = go (written n) (answered n)
@@ -138,4 +110,9 @@ pair-answers = record {
   read-write = read-write;
   read-again = read-again;
   write-read = write-read;
+  half-step-apart = half-step-apart;
+  half-step-refusals = half-step-refusals;
+  tone-stepped = tone-stepped;
+  stepped-tone = stepped-tone;
+  read-step = read-step;
 }

@@ -5,8 +5,11 @@ ghost use Rattle.pair.specs.Pairs.{meaningOf};
 ghost use Rattle.codes.specs.Coding.{codeOf};
 ghost use Rattle.answers.specs.Answers.{packed};
 ghost use Rattle.paircalls.specs.Written.{bytesNumber, written};
+ghost use Rattle.paircalls.specs.HalfSteps.{halfStepOutcome};
 use meaning::Reading;
 use meaning::Spelling;
+
+mod steps;
 
 // internal: the body of tt_pair_read.
 pub fn read(first: u8, second: u8) -> u64
@@ -32,6 +35,19 @@ pub fn write(code: u32) -> u64
         Reading::Means(m) => match pair::write(m) {
             Spelling::Refused(x) => answers::refused(x),
             Spelling::Bytes(first, second) => first as u64 * 256 + second as u64,
+        },
+    }
+}
+
+// internal: the body of tt_half_step.
+pub fn half_step(code: u32) -> u64
+    ensures { λ r. ⌜ r ≡ packed (λ n. n) (halfStepOutcome code) ⌝ }
+{
+    match decoding::meaning_of(code) {
+        Reading::Refused(x) => answers::refused(x),
+        Reading::Means(m) => match pair::write(m) {
+            Spelling::Refused(x) => answers::refused(x),
+            Spelling::Bytes(first, second) => steps::pair_step(first, second),
         },
     }
 }
