@@ -1,6 +1,5 @@
 -- A text line that is given out lies in the file, so that a caller may read its bytes there.
--- EachLine, each-line   what holds of five spans holds of the line that a number names
--- line-inside           the line and the $0D after it lie in the file
+-- line-inside   the line and the $0D after it lie in the file
 use Prim.Native.Nat.{ℕ, _+_, _<_}
 use mathlib.Core.Path.{_≡_, ap, subst}
 use mathlib.Core.List.{List}
@@ -22,14 +21,14 @@ use Rattle.mus.specs.Text.LinePlace.{lies, noLine}
 use Rattle.mus.specs.Acceptance.{songOf, then-given, accepted-clear}
 
 module _ (P : Span → Type 0) (x : Song) where
-  abbrev pub EachLine : Type 0
+  abbrev EachLine : Type 0
   EachLine = P (x .line1) × P (x .line2) × P (x .line3) × P (x .line4) × P (x .line5)
 
   one : (s t : Span) → lies t ≡ lies s → P t → P s
   one s t e h = let same : t ≡ s = cc in subst P same h
 
-  -- What holds of each line of a song holds of the line that a number names.
-  pub each-line : EachLine → (n : ℕ) (s : Span) → songLine x n ≡ lies s → P s
+  -- what holds of each line of a song holds of the line that a number names
+  each-line : EachLine → (n : ℕ) (s : Span) → songLine x n ≡ lies s → P s
   each-line h n s e =
       cases (eqb n 1) (λ a. one s (x .line1) (rw a at e) (h .0))
       (λ a. cases (eqb n 2) (λ b. one s (x .line2) (rw (a, b) at e) (h .1))
