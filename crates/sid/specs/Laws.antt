@@ -1,5 +1,5 @@
 -- Laws of reading and of the parts of an accepted file.
--- tune-once, tested-once        no two answers have the same outcome
+-- tune-once, tested-once, speed-once   no two answers have the same outcome
 -- headed-guarded, read-headed   the outcome of the tests, with the header made, is that of the call
 -- accepted-fits                 an accepted file's payload lies within the 65,536 cells
 -- payload-whole                 its payload has as many bytes as the header says
@@ -32,6 +32,9 @@ use Rattle.sid.specs.declared.Tested.{Tested}
 use Rattle.sid.specs.declared.Tested.the-variants as answer
 use Rattle.sid.specs.Answers.{outcomeOfTune, sidOutcome, Passing, passing, outcomeOfTested, testedOutcome, headed}
 use Rattle.sid.specs.Acceptance.{header, accepted-none, accepted-header}
+use Rattle.sid.specs.declared.SongSpeed.{SongSpeed}
+use Rattle.sid.specs.declared.SongSpeed.the-variants as song
+use Rattle.sid.specs.Speed.{outcomeOfSpeed}
 
 -- No two answers have the same outcome: an equation of `outcomeOfTune` leaves the answer no freedom.
 pub tune-once : (a b : Reading) → outcomeOfTune a ≡ outcomeOfTune b → a ≡ b
@@ -48,6 +51,13 @@ tested-once (answer.Passed x p) (answer.Passed y q) e =
 tested-once (answer.Passed x p) (answer.Refused y) e = absurd (two-ways (sym e))
 tested-once (answer.Refused x) (answer.Passed y q) e = absurd (two-ways e)
 tested-once (answer.Refused x) (answer.Refused y) e = ap answer.Refused (refused-once {X = Passing} x y e)
+
+-- And with the answers to a song's number.
+pub speed-once : (a b : SongSpeed) → outcomeOfSpeed a ≡ outcomeOfSpeed b → a ≡ b
+speed-once (song.Bit m) (song.Bit n) e = let same : m ≡ n = cc in rw same
+speed-once (song.Bit m) (song.Refused y) e = absurd (two-ways (sym e))
+speed-once (song.Refused x) (song.Bit n) e = absurd (two-ways e)
+speed-once (song.Refused x) (song.Refused y) e = ap song.Refused (refused-once {X = ℕ} x y e)
 
 -- Making the header after the tests or inside them is the same.
 pub headed-guarded : (f : List ℕ) (v : Verdict) (o : Outcome Passing) → headed f (guarded v o) ≡ guarded v (headed f o)

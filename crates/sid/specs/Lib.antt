@@ -1,4 +1,5 @@
 pub mod Header
 pub mod Answers
 pub mod Acceptance
+pub mod Speed
 pub mod Laws

@@ -1,13 +1,15 @@
-// PSID and RSID files, versions 1 and 2, read: tested, and what an accepted file says of itself. Every call
-// answers for every file; none has a requires.
+// PSID and RSID files, versions 1 and 2, read: tested, and what an accepted file says of itself, also of each
+// song. Every call answers for every file and number; none has a requires.
 ghost use mathlib.Core.Path.{_≡_};
 ghost use Rattle.sid.specs.Answers.{outcomeOfTune, sidOutcome, outcomeOfTested, testedOutcome};
+ghost use Rattle.sid.specs.Speed.{outcomeOfSpeed, songSpeed};
 use fields::Span;
 use refusals::Refusal;
 use refusals::Verdict;
 use sidheader::Fields;
 
 pub mod accepted;
+pub mod speed;
 
 // The bytes of a version 1 header: no shorter file is accepted.
 const SHORTEST: usize = 118;
@@ -53,6 +55,12 @@ pub enum Tested {
     Refused(Refusal),
 }
 
+// The answer to a song's number: its bit of the speed field.
+pub enum SongSpeed {
+    Bit(u32),
+    Refused(Refusal),
+}
+
 // internal: tests a file, and does not look for the ends of its texts: only the header needs them.
 pub fn test(file: &[u8]) -> Tested
     ensures { λ r. ⌜ outcomeOfTested r ≡ testedOutcome (now (file .entry)) ⌝ }
@@ -90,4 +98,11 @@ pub fn read(file: &[u8]) -> Reading
         Tested::Refused(x) => Reading::Refused(x),
         Tested::Passed(x, p) => Reading::Accepted(accepted::header_of(file, x, p)),
     }
+}
+
+// The speed bit of a song, counted from 1, by the header of its file; 44 for a song that is not there.
+pub fn song_speed(header: Header, song: u64) -> SongSpeed
+    ensures { λ r. ⌜ outcomeOfSpeed r ≡ songSpeed header song ⌝ }
+{
+    speed::speed_of(header.songs, header.speed, song)
 }

@@ -10,12 +10,13 @@ use lib.ListN.{length}
 use Rattle.refusals.specs.Numbers.{Outcome}
 use Rattle.refusals.specs.Numbers.Outcome.{accepted, refused}
 use Rattle.refusals.specs.Numbers.Reason.{noSuchSong}
-use Rattle.refusals.specs.Tests.{test, firstOf}
+use Rattle.refusals.specs.Tests.{test, firstOf, andThen}
 use Rattle.refusals.specs.Laws.{two-ways, guarded-accepted}
 use Rattle.sid.specs.declared.Header.{Header}
 use Rattle.sid.specs.Answers.{sidOutcome}
 use Rattle.sidload.specs.Loading.{loadOutcome}
-use Rattle.sidspeed.specs.Speed.{speedBit, songSpeed, speedOutcome}
+use Rattle.sid.specs.Speed.{speedBit, songSpeed}
+use Rattle.sidspeed.specs.Speed.{speedOutcome}
 use Rattle.answers.specs.Answers.{noValue}
 use Rattle.answers.specs.Apart.{Apart, low-apart}
 use Rattle.sidcalls.specs.Lists.{headerNumbers}
@@ -27,7 +28,7 @@ module _ (f : List ℕ) where
   unfolding speedOutcome speedBit
   speed-apart song = low-apart (λ bit. bit) (speedOutcome f song) (λ bit e. bit-low (sidOutcome f) bit e) (speed-low f song)
     where
-      bit-low : (o : Outcome Header) (bit : ℕ) → songSpeed o song ≡ accepted bit → bit < 0x100000000
+      bit-low : (o : Outcome Header) (bit : ℕ) → andThen o (λ h. songSpeed h song) ≡ accepted bit → bit < 0x100000000
       bit-low (accepted h) bit e =
           let is : speedBit (h .speed) song ≡ bit = guarded-accepted (firstOf (test noSuchSong (eqb song 0 || ltb (h .songs) song) ∷ [])) bit (speedBit (h .speed) song) e .1 in
           omega (arith, is)

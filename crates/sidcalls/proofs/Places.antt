@@ -7,7 +7,7 @@ use lib.Dec.{eqb, ltb}
 use Rattle.refusals.specs.Numbers.{Outcome}
 use Rattle.refusals.specs.Numbers.Outcome.{accepted, refused}
 use Rattle.refusals.specs.Numbers.Reason.{memorySize, noSuchSong}
-use Rattle.refusals.specs.Tests.{test}
+use Rattle.refusals.specs.Tests.{test, andThen}
 use Rattle.sidheader.specs.Fields.{fieldsOf}
 use Rattle.sidheader.specs.Payload.{payloadOf}
 use Rattle.sidrefusals.specs.PayloadTests.{sidTests}
@@ -15,7 +15,8 @@ use Rattle.sid.specs.declared.Header.{Header}
 use Rattle.sid.specs.Header.{headerOf}
 use Rattle.sid.specs.Answers.{sidOutcome}
 use Rattle.sidload.specs.Loading.{loadOutcome}
-use Rattle.sidspeed.specs.Speed.{speedBit, songSpeed, speedOutcome}
+use Rattle.sid.specs.Speed.{speedBit, songSpeed}
+use Rattle.sidspeed.specs.Speed.{speedOutcome}
 use Rattle.answers.specs.Apart.{LowPlace, tests-low}
 
 pub sid-low : (f : List ℕ) → LowPlace (sidOutcome f)
@@ -30,6 +31,6 @@ pub speed-low : (f : List ℕ) (song : ℕ) → LowPlace (speedOutcome f song)
 unfolding speedOutcome
 speed-low f song = go (sidOutcome f) (sid-low f)
   where
-    go : (o : Outcome Header) → LowPlace o → LowPlace (songSpeed o song)
+    go : (o : Outcome Header) → LowPlace o → LowPlace (andThen o (λ h. songSpeed h song))
     go (accepted h) l = tests-low (test noSuchSong (eqb song 0 || ltb (h .songs) song) ∷ []) (accepted (speedBit (h .speed) song)) tt
     go (refused n p) l = l

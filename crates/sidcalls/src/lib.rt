@@ -7,8 +7,8 @@ ghost use Rattle.sidload.specs.Loading.{loadOutcome, memoryAfter};
 ghost use Rattle.sidspeed.specs.Speed.{speedOutcome};
 ghost use Rattle.answers.specs.Answers.{packed, noValue, listAfter};
 ghost use Rattle.sidcalls.specs.Lists.{headerNumbers};
+use sid::SongSpeed;
 use sid::Tested;
-use sidspeed::SongSpeed;
 
 mod tunes;
 

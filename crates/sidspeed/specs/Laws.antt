@@ -1,14 +1,14 @@
--- speed-once   no two answers to a song's number have the same outcome
+-- header-asked   the speed of a song is the same by an accepted file and by its header
 use Prim.Native.Nat.{ℕ}
-use mathlib.Core.Path.{_≡_, sym, ap}
-use Rattle.refusals.specs.Laws.{refused-once, two-ways}
-use Rattle.sidspeed.specs.declared.SongSpeed.{SongSpeed}
-use Rattle.sidspeed.specs.declared.SongSpeed.the-variants.{Bit, Refused}
-use Rattle.sidspeed.specs.Speed.{outcomeOfSpeed}
+use mathlib.Core.Path.{_≡_}
+use mathlib.Core.List.{List}
+use Rattle.refusals.specs.Numbers.Outcome.{accepted}
+use Rattle.sid.specs.declared.Header.{Header}
+use Rattle.sid.specs.Answers.{sidOutcome}
+use Rattle.sid.specs.Speed.{songSpeed}
+use Rattle.sidspeed.specs.Speed.{speedOutcome}
 
--- No two answers have the same outcome: an equation of `outcomeOfSpeed` leaves the answer no freedom.
-pub speed-once : (a b : SongSpeed) → outcomeOfSpeed a ≡ outcomeOfSpeed b → a ≡ b
-speed-once (Bit m) (Bit n) e = let same : m ≡ n = cc in rw same
-speed-once (Bit m) (Refused y) e = absurd (two-ways (sym e))
-speed-once (Refused x) (Bit n) e = absurd (two-ways e)
-speed-once (Refused x) (Refused y) e = ap Refused (refused-once {X = ℕ} x y e)
+-- To ask an accepted file for the speed of a song, and to ask its header, gives the same answer.
+pub header-asked : (f : List ℕ) (h : Header) (n : ℕ) → sidOutcome f ≡ accepted h → speedOutcome f n ≡ songSpeed h n
+unfolding speedOutcome
+header-asked f h n e = rw e

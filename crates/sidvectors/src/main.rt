@@ -9,7 +9,7 @@ use refusals::Refusal;
 use sid::Header;
 use sid::Kind;
 use sid::Reading;
-use sidspeed::SongSpeed;
+use sid::SongSpeed;
 use tune::Piece;
 
 // What a cell of memory holds before a load; no payload has this byte.

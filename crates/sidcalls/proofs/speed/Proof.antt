@@ -1,6 +1,6 @@
 use mathlib.Core.Path.{sym, ap, _∙_, subst}
 use borrow.Author.Needs.{needs}
-use Rattle.sidspeed.specs.Speed.{outcomeOfSpeed}
+use Rattle.sid.specs.Speed.{outcomeOfSpeed}
 use Rattle.answers.specs.Answers.{packed}
 use Rattle.answers.specs.Apart.{LowPlace, low-fits}
 use Rattle.sidcalls.proofs.Places.{speed-low}

@@ -1,8 +1,8 @@
 -- `speed_bit` meets its contract. Assumes nothing.
 use borrow.Author.Needs.{needs}
-use Rattle.sidspeed.specs.Speed.{speedBit}
-use Rattle.sidspeed.proofs.speed_bit.Statement.{statement}
-use Rattle.sidspeed.proofs.speed_bit.Tie as tie
+use Rattle.sid.specs.Speed.{speedBit}
+use Rattle.sid.proofs.speed.speed_bit.Statement.{statement}
+use Rattle.sid.proofs.speed.speed_bit.Tie as tie
 
 bit-number-requires : tie.Need-bit-number-requires
 bit-number-requires c κs = search needs
