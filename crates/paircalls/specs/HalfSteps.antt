@@ -5,7 +5,7 @@
 -- stepOfBytes       a command has none; a note, 'First byte with low bits 00', has that of its second byte
 -- halfStepOutcome   of a code: the writer's refusal, else of the pair that is written for it
 -- number-step       the number of a half-step from -1 on is the half-step + 1
--- examples          some codes, worked out by hand
+-- codes-stepped     some codes, worked out by hand
 use Prim.Native.Nat.{ℕ, zero, suc, _+_, _%_}
 use mathlib.Core.Path.{_≡_, refl}
 use mathlib.Core.Bool.{cond}
@@ -49,8 +49,8 @@ number-step (negsuc (suc n)) t = absurd (omega (arith, leb→le (suc n) 0 t))
 
 -- C flat 0 has the half-step -1 and B sharp 7 has 96, both 64ths; F natural 5 has 65, in a double dotted
 -- quarter with a tie; C natural 4 has 48, as an absolute pitch. With a tie that one is no pair's.
-pub examples : (halfStepOutcome 0x16400CF0 ≡ accepted 0) × (halfStepOutcome 0x16400B17 ≡ accepted 97)
+pub codes-stepped : (halfStepOutcome 0x16400CF0 ≡ accepted 0) × (halfStepOutcome 0x16400B17 ≡ accepted 97)
     × (halfStepOutcome 0x10421F05 ≡ accepted 66) × (halfStepOutcome 0x1AB00C04 ≡ accepted 49)
     × (halfStepOutcome 0x1AB01C04 ≡ refused 43 0)
 unfolding halfStepOutcome written decoded
-examples = (refl, refl, refl, refl, refl)
+codes-stepped = (refl, refl, refl, refl, refl)
