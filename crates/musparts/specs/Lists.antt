@@ -1,5 +1,5 @@
--- docs/INTERFACE.md, 'A text line of a MUS file' and 'Where the voices of a MUS file lie': what stands in the
--- list after a call that answers with a value.
+-- docs/INTERFACE.md, 'The voices and lines of a MUS file': what stands in the list after a call that answers
+-- with a value.
 -- lineNumbers    the file offset of a line's first byte and its length; nothing where there is no such line
 -- spanNumbers    'the file offset of its first pair' and its stored pairs
 -- placeNumbers   these 'for voice 1, then 2, then 3'

@@ -1,18 +1,42 @@
-// The library for C and Rust: eight functions on numbers and lists, as docs/INTERFACE.md fixes them.
+// The library for C and Rust: fourteen functions on numbers and lists, as docs/INTERFACE.md fixes them.
 // Each answers for every file and every number; none has a requires.
 ghost use mathlib.Core.Path.{_≡_};
 ghost use lib.ListN.{length};
+ghost use Rattle.fields.specs.Parts.{front};
 ghost use Rattle.sid.specs.Answers.{sidOutcome};
 ghost use Rattle.sidload.specs.Loading.{loadOutcome, memoryAfter};
 ghost use Rattle.sidspeed.specs.Speed.{speedOutcome};
+ghost use Rattle.container.specs.Head.{headOutcome};
 ghost use Rattle.mus.specs.Song.{musOutcome};
+ghost use Rattle.mus.specs.Text.{lineAsked};
 ghost use Rattle.events.specs.Listing.{listing};
 ghost use Rattle.pair.specs.Pairs.{meaningOf};
 ghost use Rattle.codes.specs.Coding.{codeOf};
 ghost use Rattle.answers.specs.Answers.{packed, noValue, listAfter};
 ghost use Rattle.sidcalls.specs.Lists.{headerNumbers};
 ghost use Rattle.muscalls.specs.Lists.{songNumbers};
+ghost use Rattle.musparts.specs.Lists.{lineNumbers, placeNumbers};
 ghost use Rattle.paircalls.specs.Written.{bytesNumber, written};
+ghost use Rattle.paircalls.specs.HalfSteps.{halfStepOutcome};
+ghost use Rattle.card.specs.Kinds.{fileKind};
+ghost use Rattle.reasons.specs.Phrases.{phraseAt};
+
+// What a file is: 1 PSID, 2 RSID, 3 MUS, 0 none of them. It says nothing of whether the file is accepted.
+#[no_mangle]
+pub extern "C" fn tt_kind(file: &[u8]) -> u64
+    ensures { λ r. ⌜ r ≡ fileKind (now (file .entry)) ⌝ }
+{
+    cardcalls::kind(file)
+}
+
+// The phrase of a refusal's number, as much of it as fits; how long it is, 0 for a number without one.
+#[no_mangle]
+pub extern "C" fn tt_reason(number: u32, out: &mut [u8]) -> u64
+    ensures answer { λ r. ⌜ r ≡ length (phraseAt number) ⌝ }
+    ensures cells { λ _. ⌜ now (out .exit) ≡ front (phraseAt number) (now (out .entry)) ⌝ }
+{
+    cardcalls::reason(number, out)
+}
 
 // Reads a PSID or RSID file: 0, or the first of 1 to 13 that applies.
 #[no_mangle]
@@ -74,6 +98,34 @@ pub extern "C" fn tt_mus_list(
     muscalls::list(file, voice, first, offsets, jiffies)
 }
 
+// The load address of a MUS file, or the first of 21 to 33 that applies.
+#[no_mangle]
+pub extern "C" fn tt_mus_load(file: &[u8]) -> u64
+    ensures { λ r. ⌜ r ≡ packed (λ s. s .load) (musOutcome (now (file .entry))) ⌝ }
+{
+    musparts::load(file)
+}
+
+// Where a text line of a MUS file lies, 1 to 5: 2, with as many of offset and length as fit; 0 for any other
+// line; or the first of 21 to 33 that applies.
+#[no_mangle]
+pub extern "C" fn tt_mus_line(file: &[u8], line: u32, out: &mut [u32]) -> u64
+    ensures answer { λ r. ⌜ r ≡ packed (λ l. length (lineNumbers l)) (lineAsked (now (file .entry)) line) ⌝ }
+    ensures cells { λ _. ⌜ now (out .exit) ≡ listAfter lineNumbers (lineAsked (now (file .entry)) line) (now (out .entry)) ⌝ }
+{
+    musparts::line(file, line, out)
+}
+
+// Where the voices of a MUS file lie: 6, with as many of their offsets and pairs as fit, or the first of 21
+// to 24 that applies.
+#[no_mangle]
+pub extern "C" fn tt_mus_voices(file: &[u8], out: &mut [u32]) -> u64
+    ensures answer { λ r. ⌜ r ≡ packed (λ v. length (placeNumbers v)) (headOutcome (now (file .entry))) ⌝ }
+    ensures cells { λ _. ⌜ now (out .exit) ≡ listAfter placeNumbers (headOutcome (now (file .entry))) (now (out .entry)) ⌝ }
+{
+    musparts::voices(file, out)
+}
+
 // Reads a pair of a MUS voice: the code of its meaning, or 27 or 28.
 #[no_mangle]
 pub extern "C" fn tt_pair_read(first: u8, second: u8) -> u64
@@ -88,4 +140,12 @@ pub extern "C" fn tt_pair_write(code: u32) -> u64
     ensures { λ r. ⌜ r ≡ packed bytesNumber (written code) ⌝ }
 {
     paircalls::write(code)
+}
+
+// The half-step of a note by its code: the half-step + 1, 0 to 97, or 43.
+#[no_mangle]
+pub extern "C" fn tt_half_step(code: u32) -> u64
+    ensures { λ r. ⌜ r ≡ packed (λ n. n) (halfStepOutcome code) ⌝ }
+{
+    paircalls::half_step(code)
 }
