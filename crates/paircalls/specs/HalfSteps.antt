@@ -1,4 +1,4 @@
--- docs/INTERFACE.md, 'The code of a meaning': the half-step of the note that a code is of, as a number from 0.
+-- docs/INTERFACE.md, 'The code of a meaning': the half-step of the note that a code is of, as a number.
 -- stepNumber        a half-step, -1 to 96, as a number: the half-step + 1
 -- noStep            43 at place 0: there is no half-step
 -- stepOfTone        a rest has none; a pitch has its own

@@ -1,16 +1,9 @@
-use mathlib.Core.Path.{sym, ap, _∙_, subst}
-use Prim.Native.Nat.{ℕ}
-use mathlib.Core.List.{List}
-use lib.ListN.{length}
+use mathlib.Core.Path.{sym, ap, _∙_}
 use denote.Ref.{now}
 use borrow.Author.Needs.{needs}
-use Rattle.refusals.specs.Numbers.{Outcome}
-use Rattle.mus.specs.declared.Song.{Song}
 use Rattle.mus.specs.Song.{outcomeOfSong}
-use Rattle.answers.specs.Answers.{packed, listAfter}
-use Rattle.fields.specs.Parts.{front}
+use Rattle.answers.specs.Filling.{refusal-filled, value-filled, refusal-fits}
 use Rattle.muscalls.specs.Lists.{songNumbers}
-use Rattle.answers.specs.Apart.{LowPlace, low-fits}
 use Rattle.muscalls.proofs.Places.{mus-low}
 use Rattle.muscalls.proofs.Accepted.{narrow-song}
 use Rattle.muscalls.proofs.accept.Statement.{statement}
@@ -18,7 +11,7 @@ use Rattle.muscalls.proofs.accept.Tie as tie
 
 refused-requires : tie.Need-refused-requires
 refused-requires c κs =
-    low-fits (subst LowPlace (sym (c .before .before .before .accept .ensures) ∙ ap outcomeOfSong (c .before .x .given .1)) (mus-low _))
+    refusal-fits (ap outcomeOfSong (sym (c .before .x .given .1)) ∙ c .before .before .before .accept .ensures) (mus-low _)
 
 song-numbers-requires : tie.Need-song-numbers-requires
 song-numbers-requires c κs =
@@ -27,19 +20,17 @@ song-numbers-requires c κs =
 returns : tie.Need-returns
 returns c =
     let read = c .before .before .before .before in
-    let e = ap outcomeOfSong (sym (c .before .before .x .given .1)) ∙ read .accept .ensures in
-    (c .refused .ensures ∙ ap (packed (λ a. length (songNumbers a))) e, ap (λ (o : Outcome Song). listAfter songNumbers o (now (read .before .before .before .args .out))) e)
+    refusal-filled songNumbers (now (read .before .before .before .args .out)) (c .refused .ensures)
+    (ap outcomeOfSong (sym (c .before .before .x .given .1)) ∙ read .accept .ensures)
 
 returns-2 : tie.Need-returns-2
 returns-2 c =
     let filled = c .before .before in
     let listed = filled .before .before .before in
     let read = listed .before .before .before .before in
-    let out = now (read .before .before .before .args .out) in
-    let e = ap outcomeOfSong (sym (listed .before .before .s .given .1)) ∙ read .accept .ensures in (
-      ap (packed (λ a. length (songNumbers a))) e,
-      filled .fill .ensures ∙ ap (λ (l : List ℕ). front l out) (listed .song-numbers .ensures) ∙ ap (λ (o : Outcome Song). listAfter songNumbers o out) e,
-    )
+    value-filled songNumbers (now (read .before .before .before .args .out))
+    (filled .fill .ensures) (listed .song-numbers .ensures)
+    (ap outcomeOfSong (sym (listed .before .before .s .given .1)) ∙ read .accept .ensures)
 
 pub accept-spec : {M : Type 1} → statement M
 accept-spec =

@@ -1,15 +1,16 @@
-use mathlib.Core.Path.{sym, ap, _∙_, subst}
+use mathlib.Core.Path.{sym, ap, _∙_}
 use borrow.Author.Needs.{needs}
 use Rattle.events.specs.Listing.{Listing, outcomeOfListed}
 use Rattle.answers.specs.Answers.{packed}
-use Rattle.answers.specs.Apart.{LowPlace, low-fits}
+use Rattle.answers.specs.Filling.{refusal-fits}
 use Rattle.muscalls.proofs.Places.{list-low}
 use Rattle.muscalls.proofs.list.Statement.{statement}
 use Rattle.muscalls.proofs.list.Tie as tie
 
 refused-requires : tie.Need-refused-requires
 refused-requires c κs =
-    low-fits (subst LowPlace (sym (ap (λ (l : Listing). l .answer) (c .before .before .before .before .before .before .before .list .ensures)) ∙ ap outcomeOfListed (c .before .x .given .1)) (list-low _ _ _ _ _))
+    let listed = c .before .before .before .before .before .before .before .list .ensures in
+    refusal-fits (ap outcomeOfListed (sym (c .before .x .given .1)) ∙ ap (λ (l : Listing). l .answer) listed) (list-low _ _ _ _ _)
 
 returns : tie.Need-returns
 returns c =

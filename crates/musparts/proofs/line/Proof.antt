@@ -1,4 +1,4 @@
-use mathlib.Core.Path.{_≡_, sym, ap, _∙_, subst}
+use mathlib.Core.Path.{_≡_, refl, sym, ap, _∙_}
 use Prim.Native.Nat.{ℕ, min}
 use mathlib.Core.List.{List, []}
 use native.Mathlib.Omega.{arith}
@@ -6,10 +6,8 @@ use lib.ListN.{length}
 use denote.Ref.{now}
 use borrow.Author.Needs.{needs}
 use Rattle.fields.specs.Parts.{front}
-use Rattle.refusals.specs.Numbers.{Outcome}
-use Rattle.mus.specs.Text.{LinePlace, outcomeOfLine}
-use Rattle.answers.specs.Answers.{packed, listAfter}
-use Rattle.answers.specs.Apart.{LowPlace, low-fits}
+use Rattle.mus.specs.Text.{outcomeOfLine}
+use Rattle.answers.specs.Filling.{refusal-filled, value-filled, refusal-fits}
 use Rattle.musparts.specs.Lists.{lineNumbers}
 use Rattle.musparts.proofs.Refusals.{line-low}
 use Rattle.musparts.proofs.Accepted.{line-narrow}
@@ -18,8 +16,7 @@ use Rattle.musparts.proofs.line.Tie as tie
 
 refused-requires : tie.Need-refused-requires
 refused-requires c κs =
-    low-fits (subst LowPlace
-    (sym (c .before .before .before .text-line .ensures) ∙ ap outcomeOfLine (c .before .x .given .1)) (line-low _ _))
+    refusal-fits (ap outcomeOfLine (sym (c .before .x .given .1)) ∙ c .before .before .before .text-line .ensures) (line-low _ _)
 
 line-numbers-requires : tie.Need-line-numbers-requires
 line-numbers-requires c κs =
@@ -28,10 +25,8 @@ line-numbers-requires c κs =
 returns : tie.Need-returns
 returns c =
     let read = c .before .before .before .before in
-    let e = ap outcomeOfLine (sym (c .before .before .x .given .1)) ∙ read .text-line .ensures in (
-      c .refused .ensures ∙ ap (packed (λ l. length (lineNumbers l))) e,
-      ap (λ (o : Outcome LinePlace). listAfter lineNumbers o (now (read .before .before .before .args .out))) e,
-    )
+    refusal-filled lineNumbers (now (read .before .before .before .args .out)) (c .refused .ensures)
+    (ap outcomeOfLine (sym (c .before .before .x .given .1)) ∙ read .text-line .ensures)
 
 -- no numbers change no cell
 front-none : (cells : List ℕ) → cells ≡ front [] cells
@@ -41,23 +36,17 @@ returns-2 : tie.Need-returns-2
 returns-2 c =
     let read = c .before .before in
     let out = now (read .before .before .before .args .out) in
-    let e = ap outcomeOfLine (sym (c .enum-told .given .1)) ∙ read .text-line .ensures in (
-      ap (packed (λ l. length (lineNumbers l))) e,
-      front-none out ∙ ap (λ (o : Outcome LinePlace). listAfter lineNumbers o out) e,
-    )
+    value-filled lineNumbers out (front-none out) refl
+    (ap outcomeOfLine (sym (c .enum-told .given .1)) ∙ read .text-line .ensures)
 
 returns-3 : tie.Need-returns-3
 returns-3 c =
     let filled = c .before .before in
     let listed = filled .before .before .before in
     let read = listed .before .before .before .before in
-    let out = now (read .before .before .before .args .out) in
-    let e = ap outcomeOfLine (sym (listed .before .before .s .given .1)) ∙ read .text-line .ensures in (
-      ap (packed (λ l. length (lineNumbers l))) e,
-      filled .fill .ensures
-          ∙ ap (λ (l : List ℕ). front l out) (listed .line-numbers .ensures)
-          ∙ ap (λ (o : Outcome LinePlace). listAfter lineNumbers o out) e,
-    )
+    value-filled lineNumbers (now (read .before .before .before .args .out))
+    (filled .fill .ensures) (listed .line-numbers .ensures)
+    (ap outcomeOfLine (sym (listed .before .before .s .given .1)) ∙ read .text-line .ensures)
 
 pub line-spec : {M : Type 1} → statement M
 line-spec =

@@ -1,16 +1,15 @@
-use mathlib.Core.Path.{sym, ap, _∙_, subst}
+use mathlib.Core.Path.{sym, ap, _∙_}
 use borrow.Author.Needs.{needs}
 use Rattle.mus.specs.Song.{outcomeOfSong}
 use Rattle.answers.specs.Answers.{packed}
-use Rattle.answers.specs.Apart.{LowPlace, low-fits}
+use Rattle.answers.specs.Filling.{refusal-fits}
 use Rattle.muscalls.proofs.Places.{mus-low}
 use Rattle.musparts.proofs.load.Statement.{statement}
 use Rattle.musparts.proofs.load.Tie as tie
 
 refused-requires : tie.Need-refused-requires
 refused-requires c κs =
-    low-fits (subst LowPlace
-    (sym (c .before .before .before .accept .ensures) ∙ ap outcomeOfSong (c .before .x .given .1)) (mus-low _))
+    refusal-fits (ap outcomeOfSong (sym (c .before .x .given .1)) ∙ c .before .before .before .accept .ensures) (mus-low _)
 
 returns : tie.Need-returns
 returns c =

@@ -1,15 +1,8 @@
-use mathlib.Core.Path.{sym, ap, _∙_, subst}
-use Prim.Native.Nat.{ℕ}
-use mathlib.Core.List.{List}
-use lib.ListN.{length}
+use mathlib.Core.Path.{sym, ap, _∙_}
 use denote.Ref.{now}
 use borrow.Author.Needs.{needs}
-use Rattle.fields.specs.Parts.{front}
-use Rattle.refusals.specs.Numbers.{Outcome}
-use Rattle.container.specs.declared.Voices.{Voices}
 use Rattle.container.specs.Head.{outcomeOfHead}
-use Rattle.answers.specs.Answers.{packed, listAfter}
-use Rattle.answers.specs.Apart.{LowPlace, low-fits}
+use Rattle.answers.specs.Filling.{refusal-filled, value-filled, refusal-fits}
 use Rattle.musparts.specs.Lists.{placeNumbers}
 use Rattle.musparts.proofs.Refusals.{head-low}
 use Rattle.musparts.proofs.Accepted.{voices-narrow}
@@ -18,8 +11,7 @@ use Rattle.musparts.proofs.voices.Tie as tie
 
 refused-requires : tie.Need-refused-requires
 refused-requires c κs =
-    low-fits (subst LowPlace
-    (sym (c .before .before .before .read-head .ensures) ∙ ap outcomeOfHead (c .before .x .given .1)) (head-low _))
+    refusal-fits (ap outcomeOfHead (sym (c .before .x .given .1)) ∙ c .before .before .before .read-head .ensures) (head-low _)
 
 place-numbers-requires : tie.Need-place-numbers-requires
 place-numbers-requires c κs =
@@ -28,23 +20,17 @@ place-numbers-requires c κs =
 returns : tie.Need-returns
 returns c =
     let read = c .before .before .before .before in
-    let e = ap outcomeOfHead (sym (c .before .before .x .given .1)) ∙ read .read-head .ensures in (
-      c .refused .ensures ∙ ap (packed (λ v. length (placeNumbers v))) e,
-      ap (λ (o : Outcome Voices). listAfter placeNumbers o (now (read .before .before .before .args .out))) e,
-    )
+    refusal-filled placeNumbers (now (read .before .before .before .args .out)) (c .refused .ensures)
+    (ap outcomeOfHead (sym (c .before .before .x .given .1)) ∙ read .read-head .ensures)
 
 returns-2 : tie.Need-returns-2
 returns-2 c =
     let filled = c .before .before in
     let listed = filled .before .before .before in
     let read = listed .before .before .before .before in
-    let out = now (read .before .before .before .args .out) in
-    let e = ap outcomeOfHead (sym (listed .before .before .v .given .1)) ∙ read .read-head .ensures in (
-      ap (packed (λ v. length (placeNumbers v))) e,
-      filled .fill .ensures
-          ∙ ap (λ (l : List ℕ). front l out) (listed .place-numbers .ensures)
-          ∙ ap (λ (o : Outcome Voices). listAfter placeNumbers o out) e,
-    )
+    value-filled placeNumbers (now (read .before .before .before .args .out))
+    (filled .fill .ensures) (listed .place-numbers .ensures)
+    (ap outcomeOfHead (sym (listed .before .before .v .given .1)) ∙ read .read-head .ensures)
 
 pub voices-spec : {M : Type 1} → statement M
 voices-spec =

@@ -1,16 +1,9 @@
-use mathlib.Core.Path.{sym, ap, _∙_, subst}
-use Prim.Native.Nat.{ℕ}
-use mathlib.Core.List.{List}
-use lib.ListN.{length}
+use mathlib.Core.Path.{sym, ap, _∙_}
 use denote.Ref.{now}
 use borrow.Author.Needs.{needs}
-use Rattle.refusals.specs.Numbers.{Outcome}
-use Rattle.sid.specs.declared.Header.{Header}
 use Rattle.sid.specs.Answers.{outcomeOfTune}
-use Rattle.answers.specs.Answers.{packed, listAfter}
-use Rattle.fields.specs.Parts.{front}
+use Rattle.answers.specs.Filling.{refusal-filled, value-filled, refusal-fits}
 use Rattle.sidcalls.specs.Lists.{headerNumbers}
-use Rattle.answers.specs.Apart.{LowPlace, low-fits}
 use Rattle.sidcalls.proofs.Places.{sid-low}
 use Rattle.sidcalls.proofs.Accepted.{narrow-header}
 use Rattle.sidcalls.proofs.fields.Statement.{statement}
@@ -18,7 +11,7 @@ use Rattle.sidcalls.proofs.fields.Tie as tie
 
 refused-requires : tie.Need-refused-requires
 refused-requires c κs =
-    low-fits (subst LowPlace (sym (c .before .before .before .read .ensures) ∙ ap outcomeOfTune (c .before .x .given .1)) (sid-low _))
+    refusal-fits (ap outcomeOfTune (sym (c .before .x .given .1)) ∙ c .before .before .before .read .ensures) (sid-low _)
 
 header-numbers-requires : tie.Need-header-numbers-requires
 header-numbers-requires c κs =
@@ -27,19 +20,17 @@ header-numbers-requires c κs =
 returns : tie.Need-returns
 returns c =
     let read = c .before .before .before .before in
-    let e = ap outcomeOfTune (sym (c .before .before .x .given .1)) ∙ read .read .ensures in
-    (c .refused .ensures ∙ ap (packed (λ a. length (headerNumbers a))) e, ap (λ (o : Outcome Header). listAfter headerNumbers o (now (read .before .before .before .args .out))) e)
+    refusal-filled headerNumbers (now (read .before .before .before .args .out)) (c .refused .ensures)
+    (ap outcomeOfTune (sym (c .before .before .x .given .1)) ∙ read .read .ensures)
 
 returns-2 : tie.Need-returns-2
 returns-2 c =
     let filled = c .before .before in
     let listed = filled .before .before .before in
     let read = listed .before .before .before .before in
-    let out = now (read .before .before .before .args .out) in
-    let e = ap outcomeOfTune (sym (listed .before .before .h .given .1)) ∙ read .read .ensures in (
-      ap (packed (λ a. length (headerNumbers a))) e,
-      filled .fill .ensures ∙ ap (λ (l : List ℕ). front l out) (listed .header-numbers .ensures) ∙ ap (λ (o : Outcome Header). listAfter headerNumbers o out) e,
-    )
+    value-filled headerNumbers (now (read .before .before .before .args .out))
+    (filled .fill .ensures) (listed .header-numbers .ensures)
+    (ap outcomeOfTune (sym (listed .before .before .h .given .1)) ∙ read .read .ensures)
 
 pub fields-spec : {M : Type 1} → statement M
 fields-spec =

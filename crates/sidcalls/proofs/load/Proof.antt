@@ -1,9 +1,9 @@
-use mathlib.Core.Path.{sym, ap, _∙_, subst}
+use mathlib.Core.Path.{sym, ap, _∙_}
 use borrow.Author.Needs.{needs}
 use Rattle.sid.specs.Answers.{outcomeOfTested}
 use Rattle.sidload.specs.Laws.{load-headed}
 use Rattle.answers.specs.Answers.{packed, noValue}
-use Rattle.answers.specs.Apart.{LowPlace, low-fits}
+use Rattle.answers.specs.Filling.{refusal-fits}
 use Rattle.sidcalls.proofs.Places.{load-low}
 use Rattle.sidcalls.proofs.load.Statement.{statement}
 use Rattle.sidcalls.proofs.load.Tie as tie
@@ -11,7 +11,7 @@ use Rattle.sidcalls.proofs.load.Tie as tie
 refused-requires : tie.Need-refused-requires
 refused-requires c κs =
     let put = c .before .before .before .before .before .put-payload in
-    low-fits (subst LowPlace (sym (load-headed _ _ _ (ap outcomeOfTested (sym (c .before .x .given .1)) ∙ put .ensures .0))) (load-low _ _))
+    refusal-fits (load-headed _ _ _ (ap outcomeOfTested (sym (c .before .x .given .1)) ∙ put .ensures .0)) (load-low _ _)
 
 returns : tie.Need-returns
 returns c =

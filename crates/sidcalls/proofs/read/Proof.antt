@@ -1,16 +1,17 @@
-use mathlib.Core.Path.{sym, ap, _∙_, subst}
+use mathlib.Core.Path.{sym, ap, _∙_}
 use borrow.Author.Needs.{needs}
 use Rattle.sid.specs.Answers.{outcomeOfTested}
 use Rattle.sid.specs.Laws.{read-headed}
 use Rattle.answers.specs.Answers.{packed, noValue}
-use Rattle.answers.specs.Apart.{LowPlace, low-fits}
+use Rattle.answers.specs.Filling.{refusal-fits}
 use Rattle.sidcalls.proofs.Places.{sid-low}
 use Rattle.sidcalls.proofs.read.Statement.{statement}
 use Rattle.sidcalls.proofs.read.Tie as tie
 
 refused-requires : tie.Need-refused-requires
 refused-requires c κs =
-    low-fits (subst LowPlace (sym (read-headed _ _ (ap outcomeOfTested (sym (c .before .x .given .1)) ∙ c .before .before .before .test .ensures))) (sid-low _))
+    let tested = c .before .before .before .test .ensures in
+    refusal-fits (read-headed _ _ (ap outcomeOfTested (sym (c .before .x .given .1)) ∙ tested)) (sid-low _)
 
 returns : tie.Need-returns
 returns c =
