@@ -1,6 +1,7 @@
 /* turftangle.h: Turftangle for C and C++. Reads PSID/RSID tunes and Sidplayer MUS songs.
  *
  * Link with target/staticlib/libturftangle.a, which `rt staticlib turftangle` makes.
+ * docs/INTERFACE.md says more, with programs that use each call.
  *
  * Lists. A list is a pointer and then its length in elements. A pointer is never NULL, not even
  * for a list of no elements. A list that is written to may not overlap with any other list of the
@@ -12,22 +13,13 @@
  * half its place: for 27 to 33 in a MUS file the file offset of the pair (for 32 and 33 of the
  * voice's first pair), else 0. tt_number, tt_value and tt_place take an answer apart.
  *
- * A refusal leaves every list as it was. Cells that a call does not fill keep what they held.
+ * A refusal leaves every list as it was. Cells that a call does not fill keep what they held. A
+ * call that puts numbers into a list answers how many there are, also where fewer fit.
  *
- * The refusals:
- *    1 too short                 21 under 8 bytes                       40 memory not 65,536 bytes
- *    2 magic                     22 over 65,536 bytes, or past $FFFF    41 voice not 1 to 3
- *    3 version                   23 voice length 0 or odd               42 two lists of unequal length
- *    4 data offset               24 voices run past the file            43 no pair has this meaning
- *    5 RSID reserved field       25 text lines                          44 no such song
- *    6 songs or start song       26 bytes after the text
- *    7 reserved bits             27 unassigned pair
- *    8 MUS payload               28 value out of range
- *    9 no payload byte           29 HLT misplaced
- *   10 past $FFFF                30 repeat or phrase structure
- *   11 RSID load place           31 HED 0
- *   12 RSID init place           32 too deep
- *   13 free pages                33 too long when played
+ * Names. A cell of a list is named by its call: TT_FIELD_.. of tt_sid_fields, TT_ACCEPT_.. of
+ * tt_mus_accept, TT_VOICES_.. of tt_mus_voices, TT_LINE_.. of tt_mus_line; the last of each, .._CELLS,
+ * is how many there are. A value is named by what it is a value of: TT_REFUSED_.., TT_KIND_..,
+ * TT_CLOCK_.., TT_MODEL_.., TT_SPEED_... A later release adds names and moves none.
  */
 #ifndef TURFTANGLE_H
 #define TURFTANGLE_H
@@ -48,59 +40,203 @@ static inline uint32_t tt_value(uint64_t answer) { return (uint32_t)answer; }
 /* The refusal's place, where tt_number is not 0. */
 static inline uint32_t tt_place(uint64_t answer) { return (uint32_t)answer; }
 
-/* The length of a memory, and how many numbers tt_sid_fields and tt_mus_accept have to give. */
-enum { TT_MEMORY = 65536, TT_FIELDS = 21, TT_VOICE_NUMBERS = 12 };
+/* ---- Refusals ---- */
+
+/* The numbers of the refusals. The comment before each is its phrase, as tt_reason gives it. */
+enum {
+    /* too short for a PSID or RSID header */
+    TT_REFUSED_TOO_SHORT = 1,
+    /* it begins neither with PSID nor with RSID */
+    TT_REFUSED_MAGIC = 2,
+    /* its version is not one that we read (PSID 1 and 2, RSID 2) */
+    TT_REFUSED_VERSION = 3,
+    /* its data offset is not that of its version */
+    TT_REFUSED_DATA_OFFSET = 4,
+    /* an RSID whose load, play or speed field is not 0 */
+    TT_REFUSED_RSID_RESERVED = 5,
+    /* no song, more than 256 songs, or a start song past the last */
+    TT_REFUSED_SONGS = 6,
+    /* reserved flag bits or the reserved word are set */
+    TT_REFUSED_RESERVED_BITS = 7,
+    /* it is marked as a MUS song that needs a player: use the MUS file itself */
+    TT_REFUSED_MUS_PAYLOAD = 8,
+    /* there is no byte to load after the header */
+    TT_REFUSED_NO_PAYLOAD = 9,
+    /* the payload runs past the end of memory, $FFFF */
+    TT_REFUSED_PAST_MEMORY = 10,
+    /* an RSID that loads below $07E8 */
+    TT_REFUSED_RSID_LOAD = 11,
+    /* an RSID whose init address is not allowed */
+    TT_REFUSED_RSID_INIT = 12,
+    /* the free pages that it states cannot be free */
+    TT_REFUSED_FREE_PAGES = 13,
+    /* under 8 bytes, too short for a MUS song */
+    TT_REFUSED_MUS_SHORT = 21,
+    /* too long for a MUS song: over 65,536 bytes, or past the end of memory, $FFFF */
+    TT_REFUSED_MUS_PAST_MEMORY = 22,
+    /* a voice's length is 0 or odd */
+    TT_REFUSED_VOICE_LENGTH = 23,
+    /* the voices run past the end of the file: is it cut off? */
+    TT_REFUSED_VOICES_PAST_FILE = 24,
+    /* its text is not five lines of at most 32 letters and an end mark */
+    TT_REFUSED_TEXT_LINES = 25,
+    /* bytes follow the end of the text */
+    TT_REFUSED_BYTES_AFTER_TEXT = 26,
+    /* no command has these two bytes */
+    TT_REFUSED_UNASSIGNED_PAIR = 27,
+    /* a command's value is out of its range */
+    TT_REFUSED_VALUE_RANGE = 28,
+    /* HLT must be the last pair of a voice and stand nowhere else */
+    TT_REFUSED_HLT_MISPLACED = 29,
+    /* repeats (HED, TAL) or phrases (DEF, END, CAL) do not fit together */
+    TT_REFUSED_STRUCTURE = 30,
+    /* a repeat of 0 passes (HED 0) */
+    TT_REFUSED_HED_ZERO = 31,
+    /* repeats and calls are nested more than 16 deep */
+    TT_REFUSED_TOO_DEEP = 32,
+    /* the voice is too long when played: over 1,048,576 pairs */
+    TT_REFUSED_TOO_LONG = 33,
+    /* the memory to load into has not 65,536 bytes */
+    TT_REFUSED_MEMORY_SIZE = 40,
+    /* the voice is not 1, 2 or 3 */
+    TT_REFUSED_VOICE_NUMBER = 41,
+    /* the two lists have unequal lengths */
+    TT_REFUSED_LIST_LENGTHS = 42,
+    /* no pair of bytes has this meaning */
+    TT_REFUSED_NO_PAIR = 43,
+    /* the file has no song of this number */
+    TT_REFUSED_NO_SUCH_SONG = 44
+};
+
+/* No phrase has more bytes than this. */
+enum { TT_PHRASE_MOST = 80 };
+
+/* The phrase of a refusal's number, in words for a person: printable ASCII, with no line feed. No
+ * NUL stands in it or is put after it.
+ * Value: its whole length in bytes, 0 for a number that has none. Refusals: none.
+ * out: as much of the phrase as fits. */
+uint64_t tt_reason(uint32_t number, uint8_t *out, size_t out_n);
+
+/* ---- Any file ---- */
+
+/* The values of tt_kind. A later release may add kinds. */
+enum { TT_KIND_NEITHER = 0, TT_KIND_PSID = 1, TT_KIND_RSID = 2, TT_KIND_MUS = 3 };
+
+/* What a file is. Value: PSID or RSID where it begins with these letters, accepted or not; else
+ * neither where one of 21 to 24 applies to it, else MUS. Refusals: none. */
+uint64_t tt_kind(const uint8_t *file, size_t file_n);
+
+/* ---- PSID and RSID files ---- */
+
+/* The length of a memory. */
+enum { TT_MEMORY_SIZE = 65536 };
 
 /* The cells of tt_sid_fields. A part of the file is the offset of its first byte and, in the next
- * cell, its length. A later release adds fields after the last one and moves none. */
+ * cell, its length. A later release adds fields after the last one. */
 enum {
-    TT_RSID = 0,            /* 0 for PSID, 1 for RSID */
-    TT_VERSION = 1,
-    TT_LOAD = 2,            /* the effective load address */
-    TT_INIT = 3,            /* the effective init address */
-    TT_PLAY = 4,
-    TT_SONGS = 5,
-    TT_START = 6,           /* start song; 1 where the file has 0 */
-    TT_SPEED = 7,           /* the speed field */
-    TT_BASIC = 8,           /* flag bit 1: BASIC in an RSID, PlaySID-specific in a PSID */
-    TT_CLOCK = 9,           /* flag bits 2-3 */
-    TT_MODEL = 10,          /* flag bits 4-5 */
-    TT_START_PAGE = 11,
-    TT_PAGE_LENGTH = 12,
-    TT_TITLE = 13,          /* offset; its length in cell 14 */
-    TT_AUTHOR = 15,         /* offset; its length in cell 16 */
-    TT_RELEASED = 17,       /* offset; its length in cell 18 */
-    TT_PAYLOAD = 19         /* offset, after the two address bytes; its length in cell 20 */
+    TT_FIELD_RSID = 0,        /* 0 for PSID, 1 for RSID */
+    TT_FIELD_VERSION = 1,
+    TT_FIELD_LOAD = 2,        /* the effective load address */
+    TT_FIELD_INIT = 3,        /* the effective init address */
+    TT_FIELD_PLAY = 4,
+    TT_FIELD_SONGS = 5,
+    TT_FIELD_START = 6,       /* start song; 1 where the file has 0 */
+    TT_FIELD_SPEED = 7,       /* the speed field; tt_sid_speed gives a song's bit of it */
+    TT_FIELD_BASIC = 8,       /* flag bit 1: BASIC in an RSID, PlaySID-specific in a PSID */
+    TT_FIELD_CLOCK = 9,       /* flag bits 2-3: TT_CLOCK_.. */
+    TT_FIELD_MODEL = 10,      /* flag bits 4-5: TT_MODEL_.. */
+    TT_FIELD_START_PAGE = 11,
+    TT_FIELD_PAGE_LENGTH = 12,
+    TT_FIELD_TITLE = 13,
+    TT_FIELD_TITLE_LENGTH = 14,
+    TT_FIELD_AUTHOR = 15,
+    TT_FIELD_AUTHOR_LENGTH = 16,
+    TT_FIELD_RELEASED = 17,
+    TT_FIELD_RELEASED_LENGTH = 18,
+    TT_FIELD_PAYLOAD = 19,    /* after the two address bytes, where the data has them */
+    TT_FIELD_PAYLOAD_LENGTH = 20,
+    TT_FIELD_CELLS = 21
 };
+
+/* The values of cell TT_FIELD_CLOCK. */
+enum { TT_CLOCK_UNKNOWN = 0, TT_CLOCK_PAL = 1, TT_CLOCK_NTSC = 2, TT_CLOCK_BOTH = 3 };
+
+/* The values of cell TT_FIELD_MODEL. */
+enum { TT_MODEL_UNKNOWN = 0, TT_MODEL_MOS6581 = 1, TT_MODEL_MOS8580 = 2, TT_MODEL_BOTH = 3 };
+
+/* The values of tt_sid_speed: the vertical blank interrupt, or the timer of CIA 1. */
+enum { TT_SPEED_VERTICAL_BLANK = 0, TT_SPEED_CIA = 1 };
 
 /* Reads a PSID or RSID file. Value: 0. Refusals: 1 to 13. */
 uint64_t tt_sid_read(const uint8_t *file, size_t file_n);
 
-/* Reads the file's fields. Value: how many there are, 21. Refusals: 1 to 13.
- * out: as many of the fields as fit, from cell 0 on; cells after the last field keep what they
- * held. */
+/* Reads the file's fields. Value: how many there are, TT_FIELD_CELLS. Refusals: 1 to 13.
+ * out: as many of the fields as fit, from cell 0 on. */
 uint64_t tt_sid_fields(const uint8_t *file, size_t file_n, uint32_t *out, size_t out_n);
 
-/* Loads the file into memory. Value: 0. Refusals: 40 where memory_n is not 65,536, then 1 to 13.
+/* Loads the file into memory. Value: 0. Refusals: 40 where memory_n is not TT_MEMORY_SIZE, then 1
+ * to 13.
  * memory: the payload, from the effective load address on; every other cell keeps what it held. */
 uint64_t tt_sid_load(const uint8_t *file, size_t file_n, uint8_t *memory, size_t memory_n);
 
-/* The speed of a song; songs run from 1. Value: the song's bit of the speed field, 0 or 1; above
- * song 32 that of song 32. Refusals: 1 to 13, then 44. */
+/* The speed of a song; songs run from 1. Value: the song's bit of the speed field, TT_SPEED_..;
+ * above song 32 that of song 32. Refusals: 1 to 13, then 44. */
 uint64_t tt_sid_speed(const uint8_t *file, size_t file_n, uint32_t song);
 
-/* Accepts or refuses a MUS file. Value: 12. Refusals: 21 to 33.
- * out: for voice 1, then 2, then 3, the file offset of its first pair, its stored pairs, its
- * events and its pairs walked; as many of the twelve numbers as fit. */
+/* ---- MUS files ---- */
+
+/* The cells of tt_mus_accept: TT_ACCEPT_GROUP of them for voice 1, then for 2, then for 3. So the
+ * events of voice v stand in cell TT_ACCEPT_GROUP * (v - 1) + TT_ACCEPT_EVENTS. */
+enum {
+    TT_ACCEPT_OFFSET = 0,     /* the file offset of the voice's first pair */
+    TT_ACCEPT_PAIRS = 1,      /* its stored pairs */
+    TT_ACCEPT_EVENTS = 2,     /* its events when played */
+    TT_ACCEPT_WALKED = 3,     /* its pairs walked when played */
+    TT_ACCEPT_GROUP = 4,
+    TT_ACCEPT_CELLS = 12
+};
+
+/* The cells of tt_mus_voices, by voice in the same way, TT_VOICES_GROUP for each. */
+enum {
+    TT_VOICES_OFFSET = 0,     /* the file offset of the voice's first pair */
+    TT_VOICES_PAIRS = 1,      /* its stored pairs */
+    TT_VOICES_GROUP = 2,
+    TT_VOICES_CELLS = 6
+};
+
+/* The cells of tt_mus_line. */
+enum {
+    TT_LINE_OFFSET = 0,       /* the file offset of the line's first byte */
+    TT_LINE_LENGTH = 1,       /* without the $0D that closes it */
+    TT_LINE_CELLS = 2
+};
+
+/* Accepts or refuses a MUS file. Value: TT_ACCEPT_CELLS. Refusals: 21 to 33.
+ * out: as many of the voices' numbers as fit. */
 uint64_t tt_mus_accept(const uint8_t *file, size_t file_n, uint32_t *out, size_t out_n);
 
 /* Lists the events of a voice (1 to 3) in played order, from event number `first` on; events are
  * numbered from 0. Value: how many cells of each list are filled, 0 past the voice's end.
  * Refusals: 41, 42 where the lists' lengths differ, then 21 to 33.
- * offsets, jiffies: cell i is the file offset and the jiffy of event first + i; cells after those
- * filled keep what they held. */
+ * offsets, jiffies: cell i is the file offset and the jiffy of event first + i. */
 uint64_t tt_mus_list(const uint8_t *file, size_t file_n, uint32_t voice, uint64_t first,
                      uint32_t *offsets, size_t offsets_n, uint32_t *jiffies, size_t jiffies_n);
+
+/* The load address. Value: the address. Refusals: 21 to 33. */
+uint64_t tt_mus_load(const uint8_t *file, size_t file_n);
+
+/* Where a text line lies; lines run from 1 to 5. Value: TT_LINE_CELLS, or 0 for a line of any
+ * other number. Refusals: 21 to 33.
+ * out: as many of the two numbers as fit; nothing for a line of another number. */
+uint64_t tt_mus_line(const uint8_t *file, size_t file_n, uint32_t line, uint32_t *out,
+                     size_t out_n);
+
+/* Where the three voices lie, also in a file that 25 to 33 refuse: so the place of such a refusal
+ * can be named by voice and pair. Value: TT_VOICES_CELLS. Refusals: 21 to 24.
+ * out: as many of the voices' numbers as fit. */
+uint64_t tt_mus_voices(const uint8_t *file, size_t file_n, uint32_t *out, size_t out_n);
+
+/* ---- Pairs of a MUS voice ---- */
 
 /* Reads a pair of a MUS voice. Value: the code of what it means, a number of 32 bits to be read as
  * eight hex digits (docs/INTERFACE.md). Refusals: 27, 28. */
@@ -110,6 +246,11 @@ uint64_t tt_pair_read(uint8_t first, uint8_t second);
  * writer uses for it. Refusals: 43, for every number that is not the code of some pair's
  * meaning. */
 uint64_t tt_pair_write(uint32_t code);
+
+/* The half-step of a note, given by its code; absolute pitch is a note too. Value: the half-step + 1,
+ * 0 to 97, since a half-step is -1 to 96. Refusals: 43, for every code that tt_pair_write refuses,
+ * and for a command or a rest. */
+uint64_t tt_half_step(uint32_t code);
 
 #ifdef __cplusplus
 }

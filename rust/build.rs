@@ -22,6 +22,8 @@ fn main() {
         );
         process::exit(1);
     }
+    // The linker may run in another folder than this script.
+    let folder = folder.canonicalize().unwrap_or(folder);
     println!("cargo:rustc-link-search=native={}", folder.display());
     println!("cargo:rustc-link-lib=static=turftangle");
 }

@@ -9,6 +9,7 @@ mod plain;
 use std::hint::black_box;
 use std::ops::Range;
 use std::time::{Duration, Instant};
+use turftangle::{mus, pair, sid};
 
 const ROUNDS: usize = 32;
 /// How long one side of a round takes at least.
@@ -20,7 +21,10 @@ fn main() {
     tunes();
     loads();
     songs();
+    parts();
     pairs();
+    kinds();
+    phrases();
     println!();
     println!("| load | library ns | copy_from_slice ns | ratio |");
     println!("|---|---|---|---|");
@@ -95,7 +99,7 @@ fn tune(length: usize) -> Vec<u8> {
     file[0x77] = 0x24;
     file.extend([0x00, 0x10]);
     file.extend((0..length).map(|i| (i * 7 + 1) as u8));
-    assert_eq!(turftangle::read(&file), Ok(()));
+    assert_eq!(sid::read(&file), Ok(()));
     file
 }
 
@@ -106,21 +110,21 @@ fn tunes() {
         "tt_sid_read",
         1,
         &mut [()],
-        |()| keep(turftangle::read(file())),
+        |()| keep(sid::read(file())),
         |()| keep(apart(|| plain::sid::read(file()).map(|_| ()))),
     );
     contest(
         "tt_sid_fields",
         1,
         &mut [[1; 21]],
-        |out| keep(turftangle::fields_into(file(), black_box(out))),
+        |out| keep(sid::fields_into(file(), black_box(out))),
         |out| keep(apart(|| plain::sid::fields_into(file(), black_box(out)))),
     );
     contest(
         "tt_sid_speed",
         1,
         &mut [()],
-        |()| keep(turftangle::speed(file(), black_box(3))),
+        |()| keep(sid::speed(file(), black_box(3))),
         |()| keep(apart(|| plain::sid::speed(file(), black_box(3)))),
     );
 }
@@ -154,7 +158,7 @@ impl Load {
 
     fn ours(&mut self) {
         let file = black_box(&self.buffer[self.file.clone()]);
-        keep(turftangle::load(file, black_box(&mut self.memory)));
+        keep(sid::load(file, black_box(&mut self.memory)));
     }
 
     fn plain(&mut self) {
@@ -201,7 +205,7 @@ fn song(mut voice: Vec<u8>) -> Vec<u8> {
     file.extend(voice);
     file.extend([HLT, HLT].concat());
     file.extend(b"\r\r\r\r\r\0");
-    assert!(turftangle::accept(&file).is_ok());
+    assert!(mus::accept(&file).is_ok());
     file
 }
 
@@ -250,7 +254,7 @@ fn songs() {
             &format!("tt_mus_accept, {what}"),
             1,
             &mut [[1; 12]],
-            |out| keep(turftangle::accept_into(black_box(file), black_box(out))),
+            |out| keep(mus::accept_into(black_box(file), black_box(out))),
             |out| {
                 keep(apart(|| {
                     plain::mus::accept_into(black_box(file), black_box(out))
@@ -273,12 +277,77 @@ fn listing(what: &str, file: &[u8], first: u64, count: usize) {
         1,
         &mut [lists(), lists(), lists(), lists()],
         |(a, b)| {
-            let answer = turftangle::list(black_box(file), 1, black_box(first), a, b);
+            let answer = mus::list(black_box(file), 1, black_box(first), a, b);
             assert!(answer == Ok(count));
         },
         |(a, b)| {
             let answer = apart(|| plain::mus::list(black_box(file), 1, black_box(first), a, b));
             assert!(answer == Ok(count));
+        },
+    );
+}
+
+/// The parts of a song: two calls that accept it first, and one that does not.
+fn parts() {
+    let flat = song(notes(29_999));
+    let file = || black_box(&flat[..]);
+    contest(
+        "tt_mus_load, a flat voice of 30,000 pairs, notes",
+        1,
+        &mut [()],
+        |()| keep(mus::load(file())),
+        |()| keep(apart(|| plain::mus::load(file()))),
+    );
+    contest(
+        "tt_mus_line, the same, line 5",
+        1,
+        &mut [[1; 2]],
+        |out| keep(mus::line_into(file(), black_box(5), black_box(out))),
+        |out| {
+            keep(apart(|| {
+                plain::mus::line_into(file(), black_box(5), black_box(out))
+            }))
+        },
+    );
+    contest(
+        "tt_mus_voices, the same",
+        1,
+        &mut [[1; 6]],
+        |out| keep(mus::voices_into(file(), black_box(out))),
+        |out| keep(apart(|| plain::mus::voices_into(file(), black_box(out)))),
+    );
+}
+
+fn kinds() {
+    for (what, file) in [("a PSID", tune(4_096)), ("a song", song(notes(29_999)))] {
+        let file = || black_box(&file[..]);
+        contest(
+            &format!("tt_kind, {what}"),
+            1,
+            &mut [()],
+            |()| keep(turftangle::kind(file())),
+            |()| keep(apart(|| plain::kind(file()))),
+        );
+    }
+}
+
+/// The plain reader has read the document before.
+fn phrases() {
+    let phrases = plain::reason::Phrases::new();
+    let numbers = phrases.numbers();
+    contest(
+        "tt_reason, all phrases whole, a call",
+        numbers.len(),
+        &mut [[1; 100]],
+        |out| {
+            for &number in black_box(&numbers) {
+                keep(turftangle::reason_into(number, black_box(out)));
+            }
+        },
+        |out| {
+            for &number in black_box(&numbers) {
+                keep(apart(|| phrases.reason_into(number, black_box(out))));
+            }
         },
     );
 }
@@ -297,17 +366,31 @@ fn plain_write(code: u32) -> u64 {
     }
 }
 
-fn our_read(first: u8, second: u8) -> u64 {
-    match turftangle::read_code(first, second) {
-        Ok(code) => code.into(),
+fn plain_half_step(code: u32) -> u64 {
+    match apart(|| plain::code::half_step(code)) {
+        Ok(value) => value.into(),
         Err(refusal) => u64::from(refusal.number) << 32,
     }
 }
 
+fn our_read(first: u8, second: u8) -> u64 {
+    match pair::read_code(first, second) {
+        Ok(code) => code.into(),
+        Err(refusal) => u64::from(refusal.number()) << 32,
+    }
+}
+
 fn our_write(code: u32) -> u64 {
-    match turftangle::write_code(code) {
+    match pair::write_code(code) {
         Ok(pair) => u16::from_be_bytes(pair).into(),
-        Err(refusal) => u64::from(refusal.number) << 32,
+        Err(refusal) => u64::from(refusal.number()) << 32,
+    }
+}
+
+fn our_half_step(code: u32) -> u64 {
+    match pair::half_step_of_code(code) {
+        Ok(half_step) => (half_step + 1) as u64,
+        Err(refusal) => u64::from(refusal.number()) << 32,
     }
 }
 
@@ -327,7 +410,7 @@ fn pairs() {
         |()| keep(read_all(plain_read)),
     );
     let pairs = (0..=0xFFFF_u16).map(u16::to_be_bytes);
-    let codes = pairs.filter_map(|[first, second]| turftangle::read_code(first, second).ok());
+    let codes = pairs.filter_map(|[first, second]| pair::read_code(first, second).ok());
     let codes: Vec<u32> = codes.collect();
     contest(
         "tt_pair_write, the codes of all pairs, a call",
@@ -335,5 +418,14 @@ fn pairs() {
         &mut [()],
         |()| keep(codes.iter().map(|&code| our_write(code)).sum::<u64>()),
         |()| keep(codes.iter().map(|&code| plain_write(code)).sum::<u64>()),
+    );
+    let all = |half_step: fn(u32) -> u64| codes.iter().map(|&code| half_step(code)).sum::<u64>();
+    assert_eq!(all(our_half_step), all(plain_half_step));
+    contest(
+        "tt_half_step, the codes of all pairs, a call",
+        codes.len(),
+        &mut [()],
+        |()| keep(codes.iter().map(|&code| our_half_step(code)).sum::<u64>()),
+        |()| keep(codes.iter().map(|&code| plain_half_step(code)).sum::<u64>()),
     );
 }

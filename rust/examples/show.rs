@@ -1,72 +1,77 @@
 //! Says what the library says of files: `cargo run --release --example show -- FILE..`
 
 use std::{env, fs};
-use turftangle::{accept, header, list, Header, Kind};
+use turftangle::{kind, latin1, mus, pair, sid, Kind, Refusal, Span};
 
 fn main() {
     for name in env::args().skip(1) {
         match fs::read(&name) {
             Err(error) => println!("{name}: {error}"),
-            Ok(file) if file.starts_with(b"PSID") || file.starts_with(b"RSID") => {
-                tune(&name, &file)
-            }
-            Ok(file) => song(&name, &file),
+            Ok(file) => show(&name, &file),
         }
     }
 }
 
-/// A PSID or RSID file.
-fn tune(name: &str, file: &[u8]) {
-    let header = match header(file) {
-        Ok(header) => header,
-        Err(refusal) => return println!("{name}: {refusal}"),
+/// A file by its kind.
+fn show(name: &str, file: &[u8]) {
+    let kind = kind(file);
+    let shown = match kind {
+        Kind::Psid | Kind::Rsid => tune(name, file),
+        _ => song(name, file),
     };
-    let Header {
-        version,
-        songs,
-        start,
-        ..
-    } = header;
-    let kind = if header.kind == Kind::Psid {
-        "PSID"
-    } else {
-        "RSID"
-    };
-    println!("{name}: {kind} version {version}, {songs} songs, starts with {start}");
-    for (what, text) in [
-        ("title", header.title),
-        ("author", header.author),
-        ("released", header.released),
-    ] {
-        println!("  {what}: {}", latin(text.of(file)));
+    if let Err(refusal) = shown {
+        println!("{name}: {kind}, {refusal}");
+        if let Ok(Some((voice, number))) = mus::pair_at(file, refusal.place) {
+            println!("  that is pair {number} of voice {voice}, counted from 0");
+        }
     }
+}
+
+/// A part of the file as text.
+fn text(file: &[u8], span: Span) -> String {
+    span.of(file).map(latin1).unwrap_or_default()
+}
+
+/// A PSID or RSID tune.
+fn tune(name: &str, file: &[u8]) -> Result<(), Refusal> {
+    let header = sid::header(file)?;
+    println!("{name}: {} version {}", header.format, header.version);
+    println!("  title: {}", text(file, header.title));
+    println!("  author: {}", text(file, header.author));
+    println!("  released: {}", text(file, header.released));
     println!(
         "  load ${:04X}, init ${:04X}, play ${:04X}, payload of {} bytes",
         header.load, header.init, header.play, header.payload.length
     );
+    println!("  clock {}, model {}", header.clock, header.model);
+    println!("  songs: {}, starts with {}", header.songs, header.start);
+    for song in 1..=header.songs.min(4) {
+        println!("    song {song}: {}", sid::speed(file, song)?);
+    }
+    Ok(())
 }
 
-/// A MUS file: each voice's counts and its first events.
-fn song(name: &str, file: &[u8]) {
-    let voices = match accept(file) {
-        Ok(voices) => voices,
-        Err(refusal) => return println!("{name}: {refusal}"),
-    };
-    println!("{name}: MUS");
+/// A MUS song: its lines, each voice's counts and its first events.
+fn song(name: &str, file: &[u8]) -> Result<(), Refusal> {
+    let voices = mus::accept(file)?;
+    println!("{name}: MUS, load ${:04X}", mus::load(file)?);
+    for number in 1..=5 {
+        let line = mus::line(file, number)?.unwrap_or_default();
+        println!("  line {number}: {}", text(file, line));
+    }
     for (number, voice) in (1..).zip(voices) {
         println!(
-            "  voice {number}: {} pairs at {}, {} events, {} pairs walked",
-            voice.pairs, voice.offset, voice.events, voice.walked
+            "  voice {number}: offset {}, pairs {}, events {}, pairs walked {}",
+            voice.offset, voice.pairs, voice.events, voice.walked
         );
-        let (mut offsets, mut jiffies) = ([0; 4], [0; 4]);
-        let count = list(file, number, 0, &mut offsets, &mut jiffies).unwrap_or(0);
-        for (event, (offset, jiffy)) in offsets.iter().zip(jiffies).take(count).enumerate() {
-            println!("    event {event} at {offset}, jiffy {jiffy}");
+        for event in mus::events(file, number)?.take(8) {
+            let at = event.offset as usize;
+            let meaning = pair::read(file[at], file[at + 1])?;
+            println!(
+                "    event {} at {}, jiffy {}: {meaning}",
+                event.number, event.offset, event.jiffy
+            );
         }
     }
-}
-
-/// The texts are ISO 8859-1, whose bytes are the first code points.
-fn latin(text: &[u8]) -> String {
-    text.iter().map(|&b| b as char).collect()
+    Ok(())
 }

@@ -8,7 +8,7 @@ mod make;
 #[path = "../tests/plain/mod.rs"]
 mod plain;
 
-use check::{hex, Ask, Checked, Checker};
+use check::{hex, Ask, Call, Checked, Checker};
 use make::rng::Rng;
 use make::{damage, mus, sid};
 use std::time::Instant;
@@ -34,9 +34,10 @@ fn main() {
         }
     }
     let seconds = start.elapsed().as_secs_f64();
-    println!("{count} inputs from seed {seed}, each through eight calls, in {seconds:.1} s");
+    let calls = Call::ALL.len();
+    println!("{count} inputs from seed {seed}, each through {calls} calls, in {seconds:.1} s");
     println!("{differences} differences");
-    println!("{}", storm.checker.told());
+    print!("{}", storm.checker.told());
     std::process::exit(i32::from(differences > 0));
 }
 
@@ -85,7 +86,9 @@ impl Storm {
             }
         }
         self.file.truncate(LONGEST);
-        every_call(&mut self.checker, &mut self.rng, &self.file)
+        // a copy with no cell to spare: memcheck sees a read past the end of it
+        let file = self.file.clone().into_boxed_slice();
+        every_call(&mut self.checker, &mut self.rng, &file)
     }
 }
 
@@ -100,14 +103,24 @@ fn every_call(checker: &mut Checker, rng: &mut Rng, file: &[u8]) -> Checked {
     checker.sid_load(file, memory)?;
     checker.sid_speed(file, rng.pick(&[0, 1, 2, 31, 32, 33, 256, 257, u32::MAX]))?;
     checker.mus_accept(file, rng.below(17), salt)?;
+    checker.parts(rng, file, salt)?;
     let ask = ask(rng, file);
     checker.mus_list(file, ask, salt)?;
+    let number = rng.pick(&[salt, salt >> 25, salt >> 26]);
+    checker.reason(number, rng.below(90), salt)?;
+    pairs_and_codes(checker, rng)
+}
+
+fn pairs_and_codes(checker: &mut Checker, rng: &mut Rng) -> Checked {
     let (first, second) = (rng.byte(), rng.byte());
     checker.pair_read(first, second)?;
     // a code that some pair has, mostly with a digit changed
-    let code = plain::code::read(first, second).unwrap_or(salt);
+    let any = rng.next() as u32;
+    let code = plain::code::read(first, second).unwrap_or(any);
     let change = rng.below(16) as u32;
-    checker.pair_write(code ^ change << (4 * rng.below(8)))
+    let code = code ^ change << (4 * rng.below(8));
+    checker.pair_write(code)?;
+    checker.half_step(code)
 }
 
 /// A window; near the front in a voice that is long when played, which costs the walk up to it.

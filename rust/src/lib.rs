@@ -1,26 +1,58 @@
 //! Turftangle for Rust: reads PSID/RSID tunes and Sidplayer MUS songs.
 //!
-//! Safe wrappers over the eight functions of the proved library (`include/turftangle.h`,
-//! `docs/INTERFACE.md`). Every file of every length gets an answer; a file or a number that the
+//! Safe wrappers over the fourteen functions of the proved library (`include/turftangle.h`,
+//! `docs/INTERFACE.md`). Every file of every length and every number gets an answer. What the
 //! library cannot take is a [`Refusal`], and a refusal leaves every lent list as it was.
 //!
-//! * PSID and RSID: [`read`], [`header`], [`load`], [`speed`]
-//! * MUS: [`accept`], [`list`]
-//! * one pair of a MUS voice: [`read_pair`], [`write_pair`]
+//! * [`sid`]: PSID and RSID tunes
+//! * [`mus`]: Sidplayer MUS songs
+//! * [`pair`]: one pair of a MUS voice, read and written
+//! * [`kind`] says which of them a file is
 //!
-//! [`fields_into`], [`accept_into`], [`read_code`] and [`write_code`] hand out the library's own
-//! numbers, for callers that want no types of ours.
+//! The functions whose names end in `_into` or `_code` take and hand out the library's own numbers,
+//! for callers that want no types of ours.
+//!
+//! ```
+//! use turftangle::{kind, latin1, mus, sid, Kind, Refusal};
+//!
+//! /// The title of a tune, or the first line of a song.
+//! fn title(file: &[u8]) -> Result<String, Refusal> {
+//!     let span = match kind(file) {
+//!         Kind::Psid | Kind::Rsid => sid::header(file)?.title,
+//!         _ => mus::line(file, 1)?.unwrap_or_default(),
+//!     };
+//!     Ok(span.of(file).map(latin1).unwrap_or_default())
+//! }
+//!
+//! # let tune = include_bytes!(concat!(env!("CARGO_MANIFEST_DIR"), "/../crates/sidinfo/stdin"));
+//! # let song = include_bytes!(concat!(env!("CARGO_MANIFEST_DIR"), "/../crates/muscheck/stdin"));
+//! assert_eq!(title(tune)?, "Scale");
+//! assert_eq!(title(song)?, "TURFTANGLE REEL");
+//! let refusal = title(&song[..30]).unwrap_err();
+//! assert_eq!(refusal.number(), 24);
+//! println!("{refusal}"); // the number, and a phrase that tells a person what is wrong
+//! # Ok::<(), Refusal>(())
+//! ```
 
-mod code;
-mod meaning;
-mod mus;
-mod pair;
+#![deny(missing_docs)]
+#![deny(unsafe_code)]
+
+mod kind;
+pub mod mus;
+pub mod pair;
+#[allow(unsafe_code)]
 mod raw;
 mod refusal;
-mod sid;
+pub mod sid;
+mod span;
 
-pub use meaning::{Accidental, Command, Duration, Letter, Meaning, Name, Note, Shape, Tone};
-pub use mus::{accept, accept_into, list, Voice, VOICE_NUMBERS};
-pub use pair::{read_code, read_pair, write_code, write_pair};
-pub use refusal::Refusal;
-pub use sid::{fields_into, header, load, read, speed, Header, Kind, Span, FIELDS, MEMORY};
+pub use kind::{kind, Kind};
+pub use refusal::{reason_into, Reason, Refusal};
+pub use span::{latin1, Span};
+
+/// The Rust blocks of the documents, run as doctests.
+#[cfg(doctest)]
+mod documents {
+    #[doc = include_str!("../../README.md")]
+    struct Readme;
+}

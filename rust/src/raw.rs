@@ -4,12 +4,23 @@
 
 mod c {
     extern "C" {
+        pub fn tt_kind(file: *const u8, file_n: usize) -> u64;
+        pub fn tt_reason(number: u32, out: *mut u8, out_n: usize) -> u64;
         pub fn tt_sid_read(file: *const u8, file_n: usize) -> u64;
         pub fn tt_sid_fields(file: *const u8, file_n: usize, out: *mut u32, out_n: usize) -> u64;
         pub fn tt_sid_load(file: *const u8, file_n: usize, memory: *mut u8, memory_n: usize)
             -> u64;
         pub fn tt_sid_speed(file: *const u8, file_n: usize, song: u32) -> u64;
         pub fn tt_mus_accept(file: *const u8, file_n: usize, out: *mut u32, out_n: usize) -> u64;
+        pub fn tt_mus_load(file: *const u8, file_n: usize) -> u64;
+        pub fn tt_mus_line(
+            file: *const u8,
+            file_n: usize,
+            line: u32,
+            out: *mut u32,
+            out_n: usize,
+        ) -> u64;
+        pub fn tt_mus_voices(file: *const u8, file_n: usize, out: *mut u32, out_n: usize) -> u64;
         pub fn tt_mus_list(
             file: *const u8,
             file_n: usize,
@@ -22,7 +33,18 @@ mod c {
         ) -> u64;
         pub fn tt_pair_read(first: u8, second: u8) -> u64;
         pub fn tt_pair_write(code: u32) -> u64;
+        pub fn tt_half_step(code: u32) -> u64;
     }
+}
+
+pub fn kind(file: &[u8]) -> u64 {
+    // SAFETY: the slice is valid for reads of its length.
+    unsafe { c::tt_kind(file.as_ptr(), file.len()) }
+}
+
+pub fn reason(number: u32, out: &mut [u8]) -> u64 {
+    // SAFETY: the slice is valid for writes of its length.
+    unsafe { c::tt_reason(number, out.as_mut_ptr(), out.len()) }
 }
 
 pub fn sid_read(file: &[u8]) -> u64 {
@@ -48,6 +70,21 @@ pub fn sid_speed(file: &[u8], song: u32) -> u64 {
 pub fn mus_accept(file: &[u8], out: &mut [u32]) -> u64 {
     // SAFETY: both slices are valid for their lengths and apart.
     unsafe { c::tt_mus_accept(file.as_ptr(), file.len(), out.as_mut_ptr(), out.len()) }
+}
+
+pub fn mus_load(file: &[u8]) -> u64 {
+    // SAFETY: the slice is valid for reads of its length.
+    unsafe { c::tt_mus_load(file.as_ptr(), file.len()) }
+}
+
+pub fn mus_line(file: &[u8], line: u32, out: &mut [u32]) -> u64 {
+    // SAFETY: both slices are valid for their lengths and apart.
+    unsafe { c::tt_mus_line(file.as_ptr(), file.len(), line, out.as_mut_ptr(), out.len()) }
+}
+
+pub fn mus_voices(file: &[u8], out: &mut [u32]) -> u64 {
+    // SAFETY: both slices are valid for their lengths and apart.
+    unsafe { c::tt_mus_voices(file.as_ptr(), file.len(), out.as_mut_ptr(), out.len()) }
 }
 
 pub fn mus_list(
@@ -80,4 +117,9 @@ pub fn pair_read(first: u8, second: u8) -> u64 {
 pub fn pair_write(code: u32) -> u64 {
     // SAFETY: a number only.
     unsafe { c::tt_pair_write(code) }
+}
+
+pub fn half_step(code: u32) -> u64 {
+    // SAFETY: a number only.
+    unsafe { c::tt_half_step(code) }
 }

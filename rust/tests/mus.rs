@@ -4,7 +4,7 @@ mod check;
 mod make;
 mod plain;
 
-use check::{all_seeds, hex, seeds, Ask, Checked, Checker};
+use check::{all_seeds, hex, seeds, Ask, Call, Checked, Checker};
 use make::mus::{call, define, head, END, HLT, TAL};
 use make::rng::Rng;
 use make::{damage, mus};
@@ -15,7 +15,7 @@ fn events(file: &[u8]) -> [u64; 3] {
     plain::mus::accept(file).map_or([3; 3], |voices| voices.map(|voice| voice.events))
 }
 
-/// Both calls on one file, the listing `asks` times with windows of up to `most` cells.
+/// The calls of a song on one file, the listing `asks` times with windows of up to `most` cells.
 fn check_file(
     checker: &mut Checker,
     rng: &mut Rng,
@@ -25,6 +25,7 @@ fn check_file(
 ) -> Checked {
     let salt = rng.next() as u32;
     checker.mus_accept(file, rng.below(17), salt)?;
+    checker.parts(rng, file, salt)?;
     let events = events(file);
     for _ in 0..asks {
         checker.mus_list(file, Ask::some(rng, events, most), salt)?;
@@ -47,9 +48,15 @@ fn random_songs() {
             panic!("seed {seed}: {difference}\n{}", hex(&file));
         }
     }
+    println!("{}", checker.told());
     if all_seeds() {
-        let numbers: Vec<usize> = (21..=33).chain([41, 42]).collect();
-        checker.all_came(&numbers);
+        let file = || [0].into_iter().chain(21..=33);
+        checker.came_alone(Call::MusAccept, file());
+        checker.came_alone(Call::MusLoad, file());
+        checker.came_alone(Call::MusLine, file());
+        checker.came_alone(Call::MusVoices, [0, 21, 22, 23, 24]);
+        checker.came_alone(Call::MusList, file().chain([41, 42]));
+        checker.kinds_came(&[0, 3]);
     }
 }
 
@@ -63,9 +70,9 @@ fn at_the_limit() {
         let extra = rng.between(0, 4) as isize - 2;
         let long = mus::voice_at_limit(rng, extra);
         mus::song(0, [&HLT, &long, &HLT], EMPTY, &mut file);
-        let answer = turftangle::accept(&file).map(|voices| voices[1].walked);
-        let answer = answer.map_err(|refusal| (refusal.number, refusal.place));
-        let walked = 1_048_576_usize.wrapping_add_signed(extra) as u32;
+        let answer = turftangle::mus::accept(&file).map(|voices| voices[1].walked);
+        let answer = answer.map_err(|refusal| (refusal.number(), refusal.place));
+        let walked = 1_048_576_usize.wrapping_add(extra as usize) as u32;
         let due = if extra > 0 { Err((33, 10)) } else { Ok(walked) };
         assert_eq!(answer, due, "seed {seed}");
         // beside another voice, which may be refused by itself
@@ -81,7 +88,7 @@ fn at_the_limit() {
         }
     }
     if all_seeds() {
-        checker.all_came(&[33]);
+        checker.came(Call::MusAccept, [0, 33]);
     }
 }
 
@@ -112,7 +119,7 @@ fn long_songs() {
         }
     }
     if all_seeds() {
-        checker.all_came(&[22]);
+        checker.came(Call::MusAccept, [0, 22]);
     }
 }
 
@@ -136,14 +143,15 @@ fn longest_songs() {
             check_file(&mut checker, rng, &file, 2, 40_000).unwrap();
             let fits = file.len() <= 65_536 && load + file.len() - 2 <= 65_536;
             assert_eq!(
-                turftangle::accept(&file).is_ok(),
+                turftangle::mus::accept(&file).is_ok(),
                 fits,
                 "{} at {load}",
                 file.len()
             );
         }
     }
-    checker.all_came(&[22]);
+    checker.came_alone(Call::MusVoices, [0, 22]);
+    checker.came_alone(Call::MusAccept, [0, 22]);
 }
 
 /// Every order of up to six pairs of eight kinds, before a HLT.
@@ -182,7 +190,7 @@ fn every_small_structure() {
             }
         }
     }
-    checker.all_came(&[0, 30]);
+    checker.came_alone(Call::MusAccept, [0, 30]);
 }
 
 /// Every byte of a song set to every value; and every prefix.
@@ -190,7 +198,7 @@ fn every_small_structure() {
 fn every_byte() {
     let mut checker = Checker::new();
     let mut file = Vec::new();
-    for seed in seeds(40) {
+    for seed in seeds(24) {
         let rng = &mut Rng::new(seed);
         mus::valid(rng, 8, &mut file);
         for at in 0..file.len() {
@@ -228,7 +236,7 @@ fn every_window() {
             checker.mus_list(&file, ask, 3).unwrap();
         }
     }
-    checker.all_came(&[0, 41, 42]);
+    checker.came_alone(Call::MusList, [0, 41, 42]);
 }
 
 /// Lists of every length from 0 to past the twelve numbers; the wrapper's names of them.
@@ -243,11 +251,36 @@ fn every_list_length() {
             checker.mus_accept(&file, length, salt).unwrap();
         }
         let mut cells = [0; 12];
-        if let Ok(voices) = turftangle::accept(&file) {
+        if let Ok(voices) = turftangle::mus::accept(&file) {
             assert_eq!(plain::mus::accept_into(&file, &mut cells), Ok(12));
             let four = voices.map(|v| [v.offset, v.pairs, v.events, v.walked]);
             assert_eq!(four.concat(), cells);
         }
     }
-    checker.all_came(&[0]);
+    checker.came(Call::MusAccept, [0]);
+}
+
+/// Line numbers in and beside the five, and lists of every length from 0 to past the numbers there
+/// are; of right songs and of damaged ones.
+#[test]
+fn every_part() {
+    let mut checker = Checker::new();
+    let mut file = Vec::new();
+    let rng = &mut Rng::new(4);
+    for salt in 0..600 {
+        mus::valid(rng, 12, &mut file);
+        if salt % 2 == 1 {
+            damage::mus(rng, &mut file);
+        }
+        for line in (0..=7).chain([257, 65_537, 1 << 31, u32::MAX - 1, u32::MAX]) {
+            for length in 0..6 {
+                checker.mus_line(&file, line, length, salt).unwrap();
+            }
+        }
+        for length in 0..12 {
+            checker.mus_voices(&file, length, salt).unwrap();
+        }
+    }
+    checker.came(Call::MusLine, [0, 24, 25, 29, 30]);
+    checker.came(Call::MusVoices, [0, 24]);
 }

@@ -4,10 +4,10 @@ mod check;
 mod make;
 mod plain;
 
-use check::{all_seeds, seeds, Checker};
+use check::{all_seeds, seeds, Call, Checker};
 use make::rng::Rng;
 use std::collections::BTreeSet;
-use turftangle::{read_code, read_pair, write_code, write_pair, Meaning};
+use turftangle::pair::{self, half_step_of_code, read_code, write_code, Command, Meaning, Name};
 
 fn all_pairs() -> impl Iterator<Item = (u8, u8)> {
     (0..=0xFFFF_u16).map(|pair| ((pair >> 8) as u8, pair as u8))
@@ -25,8 +25,9 @@ fn every_pair_is_read() {
     for (first, second) in all_pairs() {
         checker.pair_read(first, second).unwrap();
     }
-    assert_eq!(checker.tally.iter().sum::<u64>(), 65_536);
-    checker.all_came(&[27, 28]);
+    let tally = checker.tally(Call::PairRead);
+    assert_eq!(tally.iter().sum::<u64>(), 65_536);
+    checker.came_alone(Call::PairRead, [0, 27, 28]);
 }
 
 /// Each code of a pair is written, and what is written reads as that code again.
@@ -35,11 +36,46 @@ fn every_code_is_written() {
     let mut checker = Checker::new();
     for code in all_codes() {
         checker.pair_write(code).unwrap();
+        checker.half_step(code).unwrap();
         let [first, second] = write_code(code).unwrap();
         assert_eq!(read_code(first, second), Ok(code), "{code:08X}");
     }
-    checker.all_came(&[0]);
-    assert_eq!(checker.tally[43], 0);
+    checker.came_alone(Call::PairWrite, [0]);
+    checker.came_alone(Call::HalfStep, [0, 43]);
+}
+
+/// The half-step of a note's pair, by document 01 from the second byte alone; a rest or a command
+/// has none.
+fn half_step_of_pair(first: u8, second: u8) -> Option<i32> {
+    if first & 3 != 0 || second & 7 == 0 {
+        return None;
+    }
+    let letter = usize::from(second & 7) - 1;
+    let octave = 7 - i32::from(second >> 3 & 7);
+    let accidental = match second >> 6 {
+        3 => -1,
+        2 => 0,
+        1 => 1,
+        // C D F G, and E A B
+        _ => [2, 2, -2, 2, 2, -2, -2][letter],
+    };
+    Some(12 * octave + [0, 2, 4, 5, 7, 9, 11][letter] + accidental)
+}
+
+/// From the bytes to the half-step, without a code of ours between; all from -1 to 96 come.
+#[test]
+fn half_steps_of_all_pairs() {
+    let mut seen = BTreeSet::new();
+    for (first, second) in all_pairs() {
+        let Ok(code) = read_code(first, second) else {
+            continue;
+        };
+        let answer = half_step_of_code(code).map_err(|refusal| (refusal.number(), refusal.place));
+        let due = half_step_of_pair(first, second);
+        assert_eq!(answer, due.ok_or((43, 0)), "{first:02X} {second:02X}");
+        seen.extend(due);
+    }
+    assert!(seen.into_iter().eq(-1..=96));
 }
 
 /// Each digit of each code changed to every other value; a code beside it is written exactly when
@@ -53,6 +89,7 @@ fn codes_beside_them() {
             for digit in 1..16 {
                 let near = code ^ digit << (4 * place);
                 checker.pair_write(near).unwrap();
+                checker.half_step(near).unwrap();
                 if place < 2 {
                     assert_eq!(
                         write_code(near).is_ok(),
@@ -63,7 +100,8 @@ fn codes_beside_them() {
             }
         }
     }
-    checker.all_came(&[0, 43]);
+    checker.came_alone(Call::PairWrite, [0, 43]);
+    checker.came_alone(Call::HalfStep, [0, 43]);
 }
 
 #[test]
@@ -78,12 +116,17 @@ fn random_codes() {
         } else {
             code
         };
-        if let Err(difference) = checker.pair_write(code) {
+        let answer = checker
+            .pair_write(code)
+            .and_then(|()| checker.half_step(code));
+        if let Err(difference) = answer {
             panic!("seed {seed}: {difference}");
         }
     }
+    println!("{}", checker.told());
     if all_seeds() {
-        checker.all_came(&[43]);
+        checker.came_alone(Call::PairWrite, [0, 43]);
+        checker.came_alone(Call::HalfStep, [0, 43]);
     }
 }
 
@@ -91,16 +134,16 @@ fn random_codes() {
 #[test]
 fn meanings_there_and_back() {
     for (first, second) in all_pairs() {
-        let (Ok(code), Ok(meaning)) = (read_code(first, second), read_pair(first, second)) else {
+        let (Ok(code), Ok(meaning)) = (read_code(first, second), pair::read(first, second)) else {
             assert_eq!(
                 read_code(first, second).err(),
-                read_pair(first, second).err()
+                pair::read(first, second).err()
             );
             continue;
         };
         assert_eq!(Meaning::from_code(code), Some(meaning));
         assert_eq!(meaning.code(), Some(code));
-        assert_eq!(write_pair(meaning), write_code(code));
+        assert_eq!(pair::write(meaning), write_code(code));
         let plain = plain::pair::read(first, second).expect("the readers agree");
         assert_eq!(plain::code::encode(plain), code);
         assert_eq!(plain::code::decode(code), Some(plain));
@@ -115,12 +158,12 @@ fn meanings_without_a_code() {
         panic!("a note");
     };
     note.tone.as_mut().expect("a tone").octave = 16;
-    let far = Meaning::Command(turftangle::Command {
-        name: turftangle::Name::Por,
+    let far = Meaning::Command(Command {
+        name: Name::Por,
         value: 65_536,
     });
     for meaning in [Meaning::Note(note), far] {
-        let refusal = write_pair(meaning).unwrap_err();
-        assert_eq!((refusal.number, refusal.place), (43, 0));
+        let refusal = pair::write(meaning).unwrap_err();
+        assert_eq!((refusal.number(), refusal.place), (43, 0));
     }
 }

@@ -2,11 +2,12 @@
 
 mod plain;
 
-use turftangle::{accept, list, read_code, write_code};
+use turftangle::mus::{accept, list};
+use turftangle::pair::{half_step_of_code, read_code, write_code};
 
 /// Both readers' code of a pair, or the number of its refusal.
 fn code(first: u8, second: u8) -> Result<u32, u32> {
-    let library = read_code(first, second).map_err(|refusal| refusal.number);
+    let library = read_code(first, second).map_err(|refusal| refusal.number());
     let plain = plain::code::read(first, second).map_err(|refusal| refusal.number);
     assert_eq!(library, plain, "{first:02X} {second:02X}");
     plain
@@ -61,6 +62,36 @@ fn preferred_pairs() {
     assert_eq!(pair(0x22E0_000D), Some(0x2E62)); // RTP 13
     assert_eq!(pair(0x1641_0F05), None); // a dotted 64th
     assert_eq!(pair(0x2A61_0000), None); // a zero below zero
+}
+
+/// Both readers' half-step and one of a code, or the number of its refusal.
+fn half_step(code: u32) -> Result<u32, u32> {
+    let library = half_step_of_code(code).map(|half_step| (half_step + 1) as u32);
+    let library = library.map_err(|refusal| refusal.number());
+    let plain = plain::code::half_step(code).map_err(|refusal| refusal.number);
+    assert_eq!(library, plain, "{code:08X}");
+    plain
+}
+
+#[test]
+fn half_steps() {
+    assert_eq!(half_step(0x1640_0CF0), Ok(0)); // C flat 0: -1
+    assert_eq!(half_step(0x1640_0B17), Ok(97)); // B sharp 7: 96
+    assert_eq!(half_step(0x1042_1F05), Ok(66)); // F natural 5: 65
+    assert_eq!(half_step(0x1040_0C00), Ok(1)); // C natural 0: 0
+    assert_eq!(half_step(0x1040_0624), Ok(58)); // G double sharp 4: 48 + 7 + 2
+    assert_eq!(half_step(0x1040_0EE4), Ok(51)); // E double flat 4: 48 + 4 - 2
+    assert_eq!(half_step(0x1AB0_0C04), Ok(49)); // absolute pitch, C natural 4: 48
+    assert_eq!(half_step(0x1AB0_1C04), Err(43)); // absolute pitch is never tied
+    assert_eq!(half_step(0x1641_0F05), Err(43)); // a dotted 64th
+    assert_eq!(half_step(0x1040_0CE4), Err(43)); // C has no double flat
+    assert_eq!(half_step(0x1040_0C08), Err(43)); // octave 8
+    assert_eq!(half_step(0x1040_0000), Err(43)); // a rest
+    assert_eq!(half_step(0x1AB0_0000), Err(43)); // a rest of absolute pitch
+    assert_eq!(half_step(0x2561_0001), Err(43)); // P-S -1
+    assert_eq!(half_step(0x34F0_0000), Err(43)); // HLT
+    assert_eq!(half_step(0), Err(43));
+    assert_eq!(half_step(u32::MAX), Err(43));
 }
 
 const SONG: [u8; 28] = [
@@ -130,8 +161,141 @@ fn effective_init() {
         }
         file.extend(load.to_le_bytes());
         file.push(0x60);
-        let library = turftangle::read(&file).map_or_else(|refusal| refusal.number, |()| 0);
+        let library = turftangle::sid::read(&file).map_or_else(|refusal| refusal.number(), |()| 0);
         let plain = plain::sid::read(&file).map_or_else(|refusal| refusal.number, |_| 0);
         assert_eq!((library, plain), (number, number), "{init:04X} {by_load}");
     }
+}
+
+/// Both readers' kind of a file.
+fn kind(file: &[u8]) -> u32 {
+    let plain = plain::kind(file);
+    assert_eq!(turftangle::kind(file).number(), plain, "{file:02X?}");
+    plain
+}
+
+/// A number and a place, where a file is refused.
+fn refused(file: &[u8]) -> (u32, u32) {
+    let library = accept(file).expect_err("refused");
+    let plain = plain::mus::accept(file).err().expect("refused");
+    assert_eq!(
+        (library.number(), library.place),
+        (plain.number, plain.place)
+    );
+    (plain.number, plain.place)
+}
+
+/// The song with some bytes of it changed.
+fn changed(at: usize, bytes: &[u8]) -> [u8; 28] {
+    let mut file = SONG;
+    file[at..at + bytes.len()].copy_from_slice(bytes);
+    file
+}
+
+/// A file that begins like a tune is one, whatever else is wrong with it.
+#[test]
+fn kinds_of_tunes() {
+    assert_eq!(kind(b"PSID"), 1);
+    assert_eq!(kind(b"RSID"), 2);
+    assert_eq!(kind(b"PSIDPSID"), 1);
+    // long enough, with version 0: refused 3
+    for (magic, number) in [(b"PSID", 1), (b"RSID", 2)] {
+        let mut file = [0; 200];
+        file[..4].copy_from_slice(magic);
+        let refusal = turftangle::sid::read(&file).unwrap_err();
+        assert_eq!((refusal.number(), kind(&file)), (3, number));
+        // longer than any song
+        assert_eq!(kind(&[&file[..], &[0; 70_000]].concat()), number);
+    }
+    assert_eq!(kind(b""), 0);
+    assert_eq!(kind(b"P"), 0);
+    assert_eq!(kind(b"PSI"), 0);
+    assert_eq!(kind(b"RSI"), 0);
+    assert_eq!(kind(b"psid"), 0);
+    assert_eq!(kind(b"SIDP"), 0);
+    assert_eq!(kind(b" PSID"), 0);
+}
+
+/// Any other file is a song unless 21 to 24 refuse it.
+#[test]
+fn kinds_of_songs() {
+    assert_eq!(kind(&SONG), 3);
+    for (file, refusal, number) in [
+        (changed(27, &[1]), (25, 0), 3),     // the text does not end with $00
+        (changed(12, &[0x05]), (27, 12), 3), // no command begins with 05
+        (changed(12, &[0x01, 0x0F]), (30, 14), 3), // TAL where no HED is open any more
+        (changed(0, &[0xE7, 0xFF]), (22, 0), 0), // one byte past $FFFF
+        (changed(2, &[9]), (23, 0), 0),      // an odd length
+        (changed(4, &[0]), (23, 0), 0),      // a voice of no length
+        (changed(2, &[18]), (24, 0), 0),     // 8 + 18 + 2 + 2 bytes in a file of 28
+    ] {
+        assert_eq!((refused(&file), kind(&file)), (refusal, number));
+    }
+    // the last byte at $FFFF; the voices end where the file ends
+    assert_eq!(kind(&changed(0, &[0xE6, 0xFF])), 3);
+    assert_eq!(kind(&changed(2, &[16])), 3);
+    assert_eq!(refused(&changed(2, &[16])), (25, 0));
+    // cut after the voices, in them, and before them
+    assert_eq!((refused(&SONG[..22]), kind(&SONG[..22])), ((25, 0), 3));
+    assert_eq!((refused(&SONG[..21]), kind(&SONG[..21])), ((24, 0), 0));
+    assert_eq!((refused(&SONG[..7]), kind(&SONG[..7])), ((21, 0), 0));
+}
+
+/// Both readers' value and list of two cells for a line, or the number of the refusal.
+fn line(file: &[u8], number: u32) -> Result<(u32, [u32; 2]), u32> {
+    let (mut ours, mut theirs) = ([7; 2], [7; 2]);
+    let library = turftangle::mus::line_into(file, number, &mut ours);
+    let plain = plain::mus::line_into(file, number, &mut theirs);
+    let library = library.map_err(|refusal| refusal.number());
+    let plain = plain.map_err(|refusal| refusal.number);
+    assert_eq!((library, ours), (plain, theirs));
+    plain.map(|count| (count, theirs))
+}
+
+/// Both readers' places of the voices.
+fn voices(file: &[u8]) -> Result<[u32; 6], u32> {
+    let (mut ours, mut theirs) = ([7; 6], [7; 6]);
+    let library = turftangle::mus::voices_into(file, &mut ours);
+    let plain = plain::mus::voices_into(file, &mut theirs);
+    let library = library.map_err(|refusal| refusal.number());
+    let plain = plain.map_err(|refusal| refusal.number);
+    assert_eq!((library, ours), (plain, theirs));
+    plain.map(|count| {
+        assert_eq!(count, 6);
+        theirs
+    })
+}
+
+/// Both readers' load address.
+fn load(file: &[u8]) -> Result<u32, u32> {
+    let library = turftangle::mus::load(file).map(u32::from);
+    let library = library.map_err(|refusal| refusal.number());
+    let plain = plain::mus::load(file).map_err(|refusal| refusal.number);
+    assert_eq!(library, plain);
+    plain
+}
+
+/// The song with five lines of 6, 0, 32, 1 and 0 bytes.
+#[test]
+fn parts_of_a_song() {
+    let text = b"A TUNE\r\r0123456789ABCDEF0123456789ABCDEF\rX\r\r\0";
+    let file = [&SONG[..22], text].concat();
+    assert_eq!(load(&file), Ok(0x0900));
+    assert_eq!(voices(&file), Ok([8, 5, 18, 1, 20, 1]));
+    assert_eq!(line(&file, 1), Ok((2, [22, 6])));
+    assert_eq!(line(&file, 2), Ok((2, [29, 0])));
+    assert_eq!(line(&file, 3), Ok((2, [30, 32])));
+    assert_eq!(line(&file, 4), Ok((2, [63, 1])));
+    assert_eq!(line(&file, 5), Ok((2, [65, 0])));
+    assert_eq!(file.len(), 67);
+    for number in [0, 6, 257, u32::MAX] {
+        assert_eq!(line(&file, number), Ok((0, [7, 7])));
+    }
+    // two bytes that no command has: the voices still have their places
+    let wrong = changed(12, &[0x05]);
+    assert_eq!((load(&wrong), line(&wrong, 1)), (Err(27), Err(27)));
+    assert_eq!(line(&wrong, 6), Err(27));
+    assert_eq!(voices(&wrong), Ok([8, 5, 18, 1, 20, 1]));
+    assert_eq!(voices(&changed(2, &[18])), Err(24));
+    assert_eq!(voices(&SONG[..22]), Ok([8, 5, 18, 1, 20, 1]));
 }

@@ -4,13 +4,14 @@ mod check;
 mod make;
 mod plain;
 
-use check::{all_seeds, hex, seeds, Checked, Checker};
+use check::{all_seeds, hex, seeds, Call, Checked, Checker};
 use make::rng::Rng;
 use make::{damage, sid};
 
-/// All four calls on one file.
+/// All calls on one file, but those that go by a song's pairs.
 fn check_file(checker: &mut Checker, rng: &mut Rng, file: &[u8]) -> Checked {
     let salt = rng.next() as u32;
+    checker.parts(rng, file, salt)?;
     checker.sid_read(file)?;
     checker.sid_fields(file, rng.below(26), salt)?;
     checker.fill_memory(salt);
@@ -46,9 +47,14 @@ fn random_files() {
         }
         ask(&mut checker, rng, &file, &format!("seed {seed}"));
     }
+    println!("{}", checker.told());
     if all_seeds() {
-        let numbers: Vec<usize> = (1..=13).chain([40, 44]).collect();
-        checker.all_came(&numbers);
+        checker.came_alone(Call::SidRead, 0..=13);
+        checker.came_alone(Call::SidFields, 0..=13);
+        checker.came_alone(Call::SidLoad, (0..=13).chain([40]));
+        checker.came_alone(Call::SidSpeed, (0..=13).chain([44]));
+        checker.came_alone(Call::MusVoices, [21, 23, 24]);
+        checker.kinds_came(&[0, 1, 2]);
     }
 }
 
@@ -70,7 +76,8 @@ fn long_files() {
         ask(&mut checker, rng, &file, &format!("seed {seed}"));
     }
     if all_seeds() {
-        checker.all_came(&[10]);
+        checker.came(Call::SidRead, [0, 10]);
+        checker.came(Call::MusVoices, [22]);
     }
 }
 
@@ -81,7 +88,7 @@ fn made_files_are_accepted() {
     for seed in seeds(5_000) {
         let rng = &mut Rng::new(seed);
         sid::valid(rng, 40_000, &mut file);
-        let answer = turftangle::read(&file);
+        let answer = turftangle::sid::read(&file);
         assert_eq!(answer, Ok(()), "seed {seed}: {}", hex(&file));
     }
 }
@@ -103,7 +110,8 @@ fn every_byte() {
                 file[at] = value;
                 let answer = checker
                     .sid_fields(&file, 21, seed as u32)
-                    .and_then(|()| checker.sid_speed(&file, 1));
+                    .and_then(|()| checker.sid_speed(&file, 1))
+                    .and_then(|()| checker.kind(&file));
                 if let Err(difference) = answer {
                     panic!("seed {seed}: {difference}\n{}", hex(&file));
                 }
@@ -114,6 +122,7 @@ fn every_byte() {
             ask(&mut checker, rng, &file[..length], &format!("seed {seed}"));
         }
     }
+    checker.kinds_came(&[0]);
 }
 
 /// Lists of every length from 0 to past the last field, of an accepted and of a refused file.
@@ -131,7 +140,8 @@ fn every_list_length() {
             checker.sid_fields(&file, length, case).unwrap();
         }
     }
-    assert_eq!(checker.tally[0], checker.tally[2]);
+    let tally = checker.tally(Call::SidFields);
+    assert_eq!([tally[0], tally[2]], [4_000, 4_000]);
 }
 
 /// The wrapper's header names the cells as docs/INTERFACE.md numbers them.
@@ -143,20 +153,19 @@ fn header_names_the_cells() {
         sid::valid(rng, 3_000, &mut file);
         let mut cells = [0; 21];
         assert_eq!(plain::sid::fields_into(&file, &mut cells), Ok(21));
-        let h = turftangle::header(&file).unwrap();
-        let rsid = u32::from(h.kind == turftangle::Kind::Rsid);
+        let h = turftangle::sid::header(&file).unwrap();
         let numbers = [
-            rsid,
+            h.format as u32,
             h.version,
             h.load,
             h.init,
             h.play,
             h.songs,
             h.start,
-            h.speed,
+            h.speed_field,
             h.basic.into(),
-            h.clock,
-            h.model,
+            h.clock as u32,
+            h.model as u32,
             h.start_page,
             h.page_length,
         ];
@@ -164,6 +173,7 @@ fn header_names_the_cells() {
         let spans = [h.title, h.author, h.released, h.payload];
         let spans = spans.map(|span| [span.offset as u32, span.length as u32]);
         assert_eq!(spans.concat(), cells[13..]);
-        assert_eq!(h.payload.of(&file).len(), cells[20] as usize);
+        let payload = h.payload.of(&file).map(<[u8]>::len);
+        assert_eq!(payload, Some(cells[20] as usize));
     }
 }

@@ -6,8 +6,8 @@ mod plain;
 
 use std::fs;
 use std::path::PathBuf;
-use turftangle::{read_pair, write_pair, Accidental, Command, Duration, Letter, Meaning, Name};
-use turftangle::{Note, Refusal, Shape, Tone};
+use turftangle::pair::{self, Accidental, Command, Duration, Meaning, Name, Note, Shape, Tone};
+use turftangle::{mus, sid, Refusal};
 
 fn path(rest: &str) -> PathBuf {
     PathBuf::from(env!("CARGO_MANIFEST_DIR"))
@@ -15,15 +15,19 @@ fn path(rest: &str) -> PathBuf {
         .join(rest)
 }
 
-/// What a program must print, line by line; lines after a text with a line feed in it are cut.
+/// What a program must print.
+fn stored(name: &str) -> Vec<u8> {
+    fs::read(path(name)).expect("the stored run is there")
+}
+
+/// The same, line by line; lines after a text with a line feed in it are cut.
 fn lines(name: &str) -> Vec<String> {
-    let bytes = fs::read(path(name)).expect("the stored run is there");
-    let text = String::from_utf8_lossy(&bytes).into_owned();
+    let text = String::from_utf8_lossy(&stored(name)).into_owned();
     text.lines().map(str::to_string).collect()
 }
 
 fn pair_of<T>(answer: Result<T, Refusal>) -> Result<T, (u32, u32)> {
-    answer.map_err(|refusal| (refusal.number, refusal.place))
+    answer.map_err(|refusal| (refusal.number(), refusal.place))
 }
 
 fn plain_pair_of<T>(answer: Result<T, plain::Refusal>) -> Result<T, (u32, u32)> {
@@ -59,7 +63,7 @@ fn sid_files() {
         let name = entry.file_name().into_string().expect("a plain name");
         let file = fs::read(entry.path()).expect("a file");
         let mut cells = [0; 21];
-        let library = pair_of(turftangle::fields_into(&file, &mut cells));
+        let library = pair_of(sid::fields_into(&file, &mut cells));
         let library = sid_line(&name, library, &cells);
         let plain = plain_pair_of(plain::sid::fields_into(&file, &mut cells));
         assert_eq!(library, sid_line(&name, plain, &cells));
@@ -82,9 +86,9 @@ fn sid_songs() {
         let songs = plain::sid::read(&file).map_or(7, |header| header.songs.into());
         let asked = [0, 1, 2, 3, 31, 32, 33, songs, songs + 1, u32::MAX];
         for (song, answer) in asked.iter().zip(words[3..].chunks(2)) {
-            let library = turftangle::speed(&file, *song).unwrap_or_else(|r| r.number);
+            let library = sid::speed(&file, *song).map_or_else(|r| r.number(), |s| s.bit());
             let plain = plain::sid::speed(&file, *song).unwrap_or_else(|r| r.number);
-            assert_eq!((library, plain), (plain, library), "{line}");
+            assert_eq!(library, plain, "{line}");
             assert_eq!(library.to_string(), answer[0], "{line}");
             seen += 1;
         }
@@ -92,35 +96,97 @@ fn sid_songs() {
     assert!(seen > 50);
 }
 
-/// The line of a MUS file as far as the calls tell it: without load address and text lines.
-fn mus_line(name: &str, answer: Result<u32, (u32, u32)>, file: &[u8], cells: &[u32; 12]) -> String {
-    if let Err((number, place)) = answer {
-        return format!("{name} refused {number} {place} ");
+/// The text lines that `musvectors` asks for: these and two far ones.
+const ASKED: [u32; 9] = [0, 1, 2, 3, 4, 5, 6, 65_537, u32::MAX];
+
+/// What a reader says of an accepted song.
+#[derive(Debug, PartialEq)]
+struct Song {
+    load: u32,
+    voices: [u32; 12],
+    places: [u32; 6],
+    /// For each line asked for how many numbers there are, and these.
+    lines: [(u32, [u32; 2]); 9],
+}
+
+fn by_library(file: &[u8]) -> Result<Song, Refusal> {
+    let (mut voices, mut places, mut lines) = ([0; 12], [0; 6], [(0, [0; 2]); 9]);
+    let load = mus::load(file)?.into();
+    mus::accept_into(file, &mut voices)?;
+    mus::voices_into(file, &mut places)?;
+    for (line, (count, numbers)) in ASKED.into_iter().zip(&mut lines) {
+        *count = mus::line_into(file, line, numbers)?;
     }
-    let load = u16::from_le_bytes([file[0], file[1]]);
-    let mut line = format!("{name} accepted load {load}");
-    for (number, four) in (1..).zip(cells.chunks_exact(4)) {
+    Ok(Song {
+        load,
+        voices,
+        places,
+        lines,
+    })
+}
+
+fn by_plain(file: &[u8]) -> Result<Song, plain::Refusal> {
+    let (mut voices, mut places, mut lines) = ([0; 12], [0; 6], [(0, [0; 2]); 9]);
+    let load = plain::mus::load(file)?;
+    plain::mus::accept_into(file, &mut voices)?;
+    plain::mus::voices_into(file, &mut places)?;
+    for (line, (count, numbers)) in ASKED.into_iter().zip(&mut lines) {
+        *count = plain::mus::line_into(file, line, numbers)?;
+    }
+    Ok(Song {
+        load,
+        voices,
+        places,
+        lines,
+    })
+}
+
+/// The line of `musvectors` about a song, with the bytes of its texts.
+fn song_line(name: &str, file: &[u8], answer: &Result<Song, (u32, u32)>) -> Vec<u8> {
+    let song = match answer {
+        Ok(song) => song,
+        Err((number, place)) => {
+            let nothing = "[]".repeat(ASKED.len());
+            return format!("{name} refused {number} {place} text {nothing}\n").into_bytes();
+        }
+    };
+    let mut line = format!("{name} accepted load {}", song.load);
+    for (number, four) in (1..).zip(song.voices.chunks_exact(4)) {
         let [offset, pairs, events, walked] = [four[0], four[1], four[2], four[3]];
         line += &format!(" v{number} {offset} {} {events} {walked}", 2 * pairs);
     }
-    line + " lines "
+    line += " lines";
+    for (_, [offset, length]) in song.lines.iter().filter(|(count, _)| *count == 2) {
+        line += &format!(" {offset} {length}");
+    }
+    let mut line = (line + " text ").into_bytes();
+    for (_, [offset, length]) in &song.lines {
+        let text = *offset as usize..(offset + length) as usize;
+        line.push(b'[');
+        line.extend_from_slice(&file[text]);
+        line.push(b']');
+    }
+    line.push(b'\n');
+    line
 }
 
 #[test]
 fn mus_files() {
-    let lines = lines("musvectors/stdout");
+    let stored = [b"\n", &stored("musvectors/stdout")[..]].concat();
     let mut seen = 0;
     for entry in fs::read_dir(path("musvectors/data")).expect("the files are there") {
         let entry = entry.expect("a file");
         let name = entry.file_name().into_string().expect("a plain name");
         let file = fs::read(entry.path()).expect("a file");
-        let mut cells = [0; 12];
-        let library = pair_of(turftangle::accept_into(&file, &mut cells));
-        let library = mus_line(&name, library, &file, &cells);
-        let plain = plain_pair_of(plain::mus::accept_into(&file, &mut cells));
-        assert_eq!(library, mus_line(&name, plain, &file, &cells));
-        let stands = lines.iter().any(|line| line.starts_with(&library));
-        assert!(stands, "{library}");
+        let library = pair_of(by_library(&file));
+        assert_eq!(library, plain_pair_of(by_plain(&file)), "{name}");
+        let line = [b"\n", &song_line(&name, &file, &library)[..]].concat();
+        let stands = stored.windows(line.len()).any(|part| part == line);
+        assert!(stands, "{}", String::from_utf8_lossy(&line));
+        if let Ok(Song { voices, places, .. }) = library {
+            let offsets_and_pairs = voices.chunks_exact(4).flat_map(|four| &four[..2]);
+            assert!(offsets_and_pairs.eq(&places), "{name}");
+        }
         seen += 1;
     }
     assert!(seen > 250);
@@ -141,7 +207,7 @@ fn list_line(file: &[u8], ask: &[u64], library: bool) -> String {
     let (mut offsets, mut jiffies) = (cells(4_000_000_000, one), cells(3_000_000_000, two));
     let (voice, first) = (ask[0] as u32, ask[1]);
     let answer = if library {
-        let answer = turftangle::list(file, voice, first, &mut offsets[..one], &mut jiffies[..two]);
+        let answer = mus::list(file, voice, first, &mut offsets[..one], &mut jiffies[..two]);
         pair_of(answer)
     } else {
         let answer = plain::mus::list(file, voice, first, &mut offsets[..one], &mut jiffies[..two]);
@@ -193,7 +259,7 @@ fn told_note(note: Note) -> String {
         Duration::UtilityVoice => "utility-voice",
         Duration::AbsolutePitch => {
             assert!(note.shape == Shape::Plain && !note.tied);
-            return format!("absolute {}", told_tone(note.tone));
+            return format!("absolute {}", told_tone(note));
         }
     };
     let shape = match note.shape {
@@ -203,31 +269,22 @@ fn told_note(note: Note) -> String {
         Shape::Triplet => "triplet",
     };
     let tie = if note.tied { "tied" } else { "-" };
-    format!("note {duration} {shape} {tie} {}", told_tone(note.tone))
+    format!("note {duration} {shape} {tie} {}", told_tone(note))
 }
 
 /// Letter, accidental, octave and half-step.
-fn told_tone(tone: Option<Tone>) -> String {
-    let Some(tone) = tone else {
+fn told_tone(note: Note) -> String {
+    let Some(tone) = note.tone else {
         return "rest".to_string();
     };
-    let step = match tone.letter {
-        Letter::C => 0,
-        Letter::D => 2,
-        Letter::E => 4,
-        Letter::F => 5,
-        Letter::G => 7,
-        Letter::A => 9,
-        Letter::B => 11,
+    let accidental = match tone.accidental {
+        Accidental::Natural => "natural",
+        Accidental::Sharp => "sharp",
+        Accidental::DoubleSharp => "double-sharp",
+        Accidental::Flat => "flat",
+        Accidental::DoubleFlat => "double-flat",
     };
-    let (accidental, adds) = match tone.accidental {
-        Accidental::Natural => ("natural", 0),
-        Accidental::Sharp => ("sharp", 1),
-        Accidental::DoubleSharp => ("double-sharp", 2),
-        Accidental::Flat => ("flat", -1),
-        Accidental::DoubleFlat => ("double-flat", -2),
-    };
-    let half_step = 12 * i32::from(tone.octave) + step + adds;
+    let half_step = pair::half_step(Meaning::Note(note)).expect("it has a tone");
     let Tone { letter, octave, .. } = tone;
     format!("{letter:?} {accidental} {octave} {half_step}")
 }
@@ -249,17 +306,17 @@ fn pairs() {
     let stdin = fs::read(path("pairs/stdin")).expect("the pairs are there");
     let lines = lines("pairs/stdout");
     assert_eq!(lines.len(), stdin.len() / 2);
-    for (pair, line) in stdin.chunks_exact(2).zip(lines) {
-        let (first, second) = (pair[0], pair[1]);
-        let answer = match read_pair(first, second) {
-            Err(refusal) => format!("{first:02X} {second:02X} refused {}", refusal.number),
+    for (bytes, line) in stdin.chunks_exact(2).zip(lines) {
+        let (first, second) = (bytes[0], bytes[1]);
+        let answer = match pair::read(first, second) {
+            Err(refusal) => format!("{first:02X} {second:02X} refused {}", refusal.number()),
             Ok(meaning) => {
-                let [a, b] = write_pair(meaning).expect("a pair has it");
+                let [a, b] = pair::write(meaning).expect("a pair has it");
                 format!("{first:02X} {second:02X} {} {a:02X} {b:02X}", told(meaning))
             }
         };
         assert_eq!(answer, line);
-        let library = turftangle::read_code(first, second);
+        let library = pair::read_code(first, second);
         assert_eq!(
             pair_of(library),
             plain_pair_of(plain::code::read(first, second))
@@ -289,9 +346,9 @@ fn commands_written() {
             "YES" => 1,
             number => number.parse().expect("a number"),
         };
-        let answer = match write_pair(Meaning::Command(Command { name, value })) {
+        let answer = match pair::write(Meaning::Command(Command { name, value })) {
             Ok([first, second]) => format!("{first:02X} {second:02X}"),
-            Err(refusal) => format!("refused {} {}", refusal.number, refusal.place),
+            Err(refusal) => format!("refused {} {}", refusal.number(), refusal.place),
         };
         assert_eq!(answer, words[2..].join(" "), "{line}");
         seen += 1;

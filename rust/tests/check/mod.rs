@@ -16,7 +16,7 @@ type Answer = Result<u64, (u32, u32)>;
 pub type Checked = Result<(), String>;
 
 fn of_library<T: Into<u64>>(answer: Result<T, Refusal>) -> Answer {
-    answer.map(T::into).map_err(|r| (r.number, r.place))
+    answer.map(T::into).map_err(|r| (r.number(), r.place))
 }
 
 fn of_plain<T: Into<u64>>(answer: Result<T, plain::Refusal>) -> Answer {
@@ -61,14 +61,84 @@ fn pattern(salt: u32) -> impl Fn(usize) -> u32 {
     move |i| salt.wrapping_add(i as u32).wrapping_mul(0x9E37_79B1) | 0x8000_0000
 }
 
+/// Bytes that stand in no phrase.
+fn byte_pattern(salt: u32) -> impl Fn(usize) -> u8 {
+    let cell = pattern(salt);
+    move |i| (cell(i) >> 24) as u8
+}
+
+/// The calls, in the order of docs/INTERFACE.md.
+#[derive(Clone, Copy, Debug, PartialEq, Eq)]
+pub enum Call {
+    Kind,
+    Reason,
+    SidRead,
+    SidFields,
+    SidLoad,
+    SidSpeed,
+    MusAccept,
+    MusList,
+    MusLoad,
+    MusLine,
+    MusVoices,
+    PairRead,
+    PairWrite,
+    HalfStep,
+}
+
+impl Call {
+    pub const ALL: [Call; 14] = [
+        Call::Kind,
+        Call::Reason,
+        Call::SidRead,
+        Call::SidFields,
+        Call::SidLoad,
+        Call::SidSpeed,
+        Call::MusAccept,
+        Call::MusList,
+        Call::MusLoad,
+        Call::MusLine,
+        Call::MusVoices,
+        Call::PairRead,
+        Call::PairWrite,
+        Call::HalfStep,
+    ];
+
+    /// Its name in C.
+    pub fn name(self) -> &'static str {
+        match self {
+            Call::Kind => "tt_kind",
+            Call::Reason => "tt_reason",
+            Call::SidRead => "tt_sid_read",
+            Call::SidFields => "tt_sid_fields",
+            Call::SidLoad => "tt_sid_load",
+            Call::SidSpeed => "tt_sid_speed",
+            Call::MusAccept => "tt_mus_accept",
+            Call::MusList => "tt_mus_list",
+            Call::MusLoad => "tt_mus_load",
+            Call::MusLine => "tt_mus_line",
+            Call::MusVoices => "tt_mus_voices",
+            Call::PairRead => "tt_pair_read",
+            Call::PairWrite => "tt_pair_write",
+            Call::HalfStep => "tt_half_step",
+        }
+    }
+}
+
+/// How often a call gave each answer: by the number of the refusal, 0 for a value.
+type Tally = [u64; 45];
+
 /// The greatest memory that is lent.
 const MOST_MEMORY: usize = 65_536 + 16;
 
 /// The lists that are lent, and how often each refusal came.
 pub struct Checker {
-    /// By number; 0 counts the values.
-    pub tally: [u64; 45],
+    tallies: [Tally; Call::ALL.len()],
+    /// How often `tt_kind` gave each kind.
+    kinds: [u64; 4],
+    phrases: plain::reason::Phrases,
     memory: Twin<u8>,
+    bytes: Twin<u8>,
     one: Twin<u32>,
     two: Twin<u32>,
 }
@@ -76,8 +146,11 @@ pub struct Checker {
 impl Checker {
     pub fn new() -> Checker {
         let mut checker = Checker {
-            tally: [0; 45],
+            tallies: [[0; 45]; Call::ALL.len()],
+            kinds: [0; 4],
+            phrases: plain::reason::Phrases::new(),
             memory: Twin::new(),
+            bytes: Twin::new(),
             one: Twin::new(),
             two: Twin::new(),
         };
@@ -91,63 +164,121 @@ impl Checker {
         self.memory.fill(MOST_MEMORY, |i| (cell(i) >> 16) as u8);
     }
 
-    /// Two answers, and whether the lists are the same; the call is put into words where not.
+    /// Two answers, and whether the lists are the same; the arguments are put into words where not.
     fn judge(
         &mut self,
-        call: impl Fn() -> String,
-        library: Answer,
-        plain: Answer,
+        call: Call,
+        arguments: impl Fn() -> String,
+        [library, plain]: [Answer; 2],
         lists: bool,
     ) -> Checked {
+        let told = || format!("{}{}", call.name(), arguments());
         if library != plain {
-            return Err(format!("{}: library {library:?}, plain {plain:?}", call()));
+            return Err(format!("{}: library {library:?}, plain {plain:?}", told()));
         }
         if !lists {
-            return Err(format!("{}: lists differ, answer {plain:?}", call()));
+            return Err(format!("{}: lists differ, answer {plain:?}", told()));
         }
         let number = plain.map_or_else(|(number, _)| number as usize, |_| 0);
-        self.tally[number] += 1;
+        self.tallies[call as usize][number] += 1;
         Ok(())
     }
 
+    pub fn kind(&mut self, file: &[u8]) -> Checked {
+        let kind = plain::kind(file);
+        self.kinds[kind as usize] += 1;
+        let answers = [Ok(turftangle::kind(file).number().into()), Ok(kind.into())];
+        self.judge(Call::Kind, String::new, answers, true)
+    }
+
+    pub fn reason(&mut self, number: u32, length: usize, salt: u32) -> Checked {
+        self.bytes.fill(length, byte_pattern(salt));
+        let (ours, theirs) = self.bytes.lend(length);
+        let library = turftangle::reason_into(number, ours);
+        let plain = self.phrases.reason_into(number, theirs);
+        let answers = [Ok(library.into()), Ok(plain.into())];
+        let arguments = || format!(" of {number} into {length}");
+        self.judge(Call::Reason, arguments, answers, self.bytes.same())
+    }
+
     pub fn sid_read(&mut self, file: &[u8]) -> Checked {
-        let library = of_library(turftangle::read(file).map(|()| 0_u64));
+        let library = of_library(turftangle::sid::read(file).map(|()| 0_u64));
         let plain = of_plain(plain::sid::read(file).map(|_| 0_u64));
-        let call = || "tt_sid_read".to_string();
-        self.judge(call, library, plain, true)
+        self.judge(Call::SidRead, String::new, [library, plain], true)
     }
 
     pub fn sid_fields(&mut self, file: &[u8], length: usize, salt: u32) -> Checked {
         self.one.fill(length, pattern(salt));
         let (ours, theirs) = self.one.lend(length);
-        let library = of_library(turftangle::fields_into(file, ours));
+        let library = of_library(turftangle::sid::fields_into(file, ours));
         let plain = of_plain(plain::sid::fields_into(file, theirs));
-        let call = || format!("tt_sid_fields into {length}");
-        self.judge(call, library, plain, self.one.same())
+        let arguments = || format!(" into {length}");
+        let lists = self.one.same();
+        self.judge(Call::SidFields, arguments, [library, plain], lists)
     }
 
     pub fn sid_load(&mut self, file: &[u8], length: usize) -> Checked {
         let (ours, theirs) = self.memory.lend(length);
-        let library = of_library(turftangle::load(file, ours).map(|()| 0_u64));
+        let library = of_library(turftangle::sid::load(file, ours).map(|()| 0_u64));
         let plain = of_plain(plain::sid::load(file, theirs).map(|()| 0_u64));
-        let call = || format!("tt_sid_load into {length}");
-        self.judge(call, library, plain, self.memory.same())
+        let arguments = || format!(" into {length}");
+        let lists = self.memory.same();
+        self.judge(Call::SidLoad, arguments, [library, plain], lists)
     }
 
     pub fn sid_speed(&mut self, file: &[u8], song: u32) -> Checked {
-        let library = of_library(turftangle::speed(file, song));
+        let library = of_library(turftangle::sid::speed(file, song).map(|speed| speed.bit()));
         let plain = of_plain(plain::sid::speed(file, song));
-        let call = || format!("tt_sid_speed of {song}");
-        self.judge(call, library, plain, true)
+        let arguments = || format!(" of {song}");
+        self.judge(Call::SidSpeed, arguments, [library, plain], true)
     }
 
     pub fn mus_accept(&mut self, file: &[u8], length: usize, salt: u32) -> Checked {
         self.one.fill(length, pattern(salt));
         let (ours, theirs) = self.one.lend(length);
-        let library = of_library(turftangle::accept_into(file, ours));
+        let library = of_library(turftangle::mus::accept_into(file, ours));
         let plain = of_plain(plain::mus::accept_into(file, theirs));
-        let call = || format!("tt_mus_accept into {length}");
-        self.judge(call, library, plain, self.one.same())
+        let arguments = || format!(" into {length}");
+        let lists = self.one.same();
+        self.judge(Call::MusAccept, arguments, [library, plain], lists)
+    }
+
+    pub fn mus_load(&mut self, file: &[u8]) -> Checked {
+        let library = of_library(turftangle::mus::load(file));
+        let plain = of_plain(plain::mus::load(file));
+        self.judge(Call::MusLoad, String::new, [library, plain], true)
+    }
+
+    pub fn mus_line(&mut self, file: &[u8], line: u32, length: usize, salt: u32) -> Checked {
+        self.one.fill(length, pattern(salt));
+        let (ours, theirs) = self.one.lend(length);
+        let library = of_library(turftangle::mus::line_into(file, line, ours));
+        let plain = of_plain(plain::mus::line_into(file, line, theirs));
+        let arguments = || format!(" {line} into {length}");
+        let lists = self.one.same();
+        self.judge(Call::MusLine, arguments, [library, plain], lists)
+    }
+
+    pub fn mus_voices(&mut self, file: &[u8], length: usize, salt: u32) -> Checked {
+        self.one.fill(length, pattern(salt));
+        let (ours, theirs) = self.one.lend(length);
+        let library = of_library(turftangle::mus::voices_into(file, ours));
+        let plain = of_plain(plain::mus::voices_into(file, theirs));
+        let arguments = || format!(" into {length}");
+        let lists = self.one.same();
+        self.judge(Call::MusVoices, arguments, [library, plain], lists)
+    }
+
+    /// What kind a file is, and the parts of a song: some line, into lists of some lengths.
+    pub fn parts(&mut self, rng: &mut Rng, file: &[u8], salt: u32) -> Checked {
+        self.kind(file)?;
+        self.mus_load(file)?;
+        let line = match rng.below(16) {
+            0 => rng.pick(&[0, 6, 7, 257, 65_537, u32::MAX - 1, u32::MAX]),
+            _ => rng.between(1, 5) as u32,
+        };
+        self.mus_line(file, line, rng.below(5), salt)?;
+        self.mus_voices(file, rng.below(10), salt)
     }
 
     pub fn mus_list(&mut self, file: &[u8], ask: Ask, salt: u32) -> Checked {
@@ -156,46 +287,87 @@ impl Checker {
         self.two.fill(ask.jiffies, pattern(!salt));
         let (our_one, their_one) = self.one.lend(ask.offsets);
         let (our_two, their_two) = self.two.lend(ask.jiffies);
-        let library = turftangle::list(file, voice, first, our_one, our_two);
+        let library = turftangle::mus::list(file, voice, first, our_one, our_two);
         let plain = plain::mus::list(file, voice, first, their_one, their_two);
         let library = of_library(library.map(|n| n as u64));
         let plain = of_plain(plain.map(|n| n as u64));
         let lists = self.one.same() && self.two.same();
-        let call = || format!("tt_mus_list {ask:?}");
-        self.judge(call, library, plain, lists)
+        let arguments = || format!(" {ask:?}");
+        self.judge(Call::MusList, arguments, [library, plain], lists)
     }
 
     pub fn pair_read(&mut self, first: u8, second: u8) -> Checked {
-        let library = of_library(turftangle::read_code(first, second));
+        let library = of_library(turftangle::pair::read_code(first, second));
         let plain = of_plain(plain::code::read(first, second));
-        let call = || format!("tt_pair_read {first:02X} {second:02X}");
-        self.judge(call, library, plain, true)
+        let arguments = || format!(" {first:02X} {second:02X}");
+        self.judge(Call::PairRead, arguments, [library, plain], true)
     }
 
     pub fn pair_write(&mut self, code: u32) -> Checked {
-        let pair = turftangle::write_code(code);
+        let pair = turftangle::pair::write_code(code);
         let library = of_library(pair.map(|pair| u64::from(u16::from_be_bytes(pair))));
         let plain = of_plain(plain::code::write(code));
-        let call = || format!("tt_pair_write {code:08X}");
-        self.judge(call, library, plain, true)
+        let arguments = || format!(" {code:08X}");
+        self.judge(Call::PairWrite, arguments, [library, plain], true)
     }
 
-    /// How often each refusal came, in words.
+    pub fn half_step(&mut self, code: u32) -> Checked {
+        // the wrapper takes one off again
+        let half_step = turftangle::pair::half_step_of_code(code);
+        let library = of_library(half_step.map(|n| i64::from(n).wrapping_add(1) as u64));
+        let plain = of_plain(plain::code::half_step(code));
+        let arguments = || format!(" {code:08X}");
+        self.judge(Call::HalfStep, arguments, [library, plain], true)
+    }
+
+    /// How often each refusal came from a call, 0 counting the values.
+    pub fn tally(&self, call: Call) -> &Tally {
+        &self.tallies[call as usize]
+    }
+
+    /// How often each refusal came, in words, a line for each call that was made.
     pub fn told(&self) -> String {
-        let mut told = format!("values {}", self.tally[0]);
-        for (number, count) in self.tally.iter().enumerate().skip(1) {
-            if *count > 0 {
-                let _ = write!(told, ", {number}: {count}");
+        let mut told = String::new();
+        for call in Call::ALL {
+            let tally = self.tally(call);
+            if tally.iter().all(|&count| count == 0) {
+                continue;
             }
+            let _ = write!(told, "{}: values {}", call.name(), tally[0]);
+            for (number, count) in tally.iter().enumerate().skip(1) {
+                if *count > 0 {
+                    let _ = write!(told, ", {number}: {count}");
+                }
+            }
+            told.push('\n');
         }
         told
     }
 
-    /// Fails where one of these refusals never came.
-    pub fn all_came(&self, numbers: &[usize]) {
-        println!("{}", self.told());
-        for &number in numbers {
-            assert!(self.tally[number] > 0, "refusal {number} never came");
+    /// Fails where one of these refusals never came from the call; 0 stands for a value.
+    pub fn came(&self, call: Call, numbers: impl IntoIterator<Item = usize>) {
+        for number in numbers {
+            let count = self.tally(call)[number];
+            assert!(count > 0, "{} {number} never came", call.name());
+        }
+    }
+
+    /// Fails too where a refusal came that is none of these.
+    pub fn came_alone(&self, call: Call, numbers: impl IntoIterator<Item = usize>) {
+        let mut tally = *self.tally(call);
+        for number in numbers {
+            assert!(tally[number] > 0, "{} {number} never came", call.name());
+            tally[number] = 0;
+        }
+        for (number, count) in tally.into_iter().enumerate() {
+            assert_eq!(count, 0, "{} {number} came", call.name());
+        }
+    }
+
+    /// Fails where `tt_kind` never gave one of these.
+    pub fn kinds_came(&self, kinds: &[usize]) {
+        for &kind in kinds {
+            assert!(self.kinds[kind] > 0, "kind {kind} never came");
         }
     }
 }

@@ -190,7 +190,7 @@ fn a_special(rng: &mut Rng) -> [u8; 2] {
 /// Adds to the length of a voice.
 fn lengthen(file: &mut [u8], voice: usize, by: i16) {
     let at = 2 + 2 * voice;
-    let length = u16::from_le_bytes([file[at], file[at + 1]]).wrapping_add_signed(by);
+    let length = u16::from_le_bytes([file[at], file[at + 1]]).wrapping_add(by as u16);
     set(file, at, &length.to_le_bytes());
 }
 

@@ -102,7 +102,7 @@ pub fn voice(rng: &mut Rng, most: usize) -> Vec<u8> {
 pub fn voice_at_limit(rng: &mut Rng, extra: isize) -> Vec<u8> {
     let mut maker = Maker::new(rng);
     // HLT is one of them
-    maker.walking((LIMIT - 1).wrapping_add_signed(extra));
+    maker.walking((LIMIT - 1).wrapping_add(extra as usize));
     maker.put(HLT);
     maker.pairs
 }

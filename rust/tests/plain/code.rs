@@ -16,6 +16,18 @@ pub fn write(code: u32) -> Result<u32, Refusal> {
     Ok(u32::from(first) << 8 | u32::from(second))
 }
 
+/// One more than the half-step of a code's note; 43 where no pair has the code, and where it is that
+/// of a command or a rest.
+pub fn half_step(code: u32) -> Result<u32, Refusal> {
+    write(code)?;
+    match decode(code) {
+        Some(Meaning::Note(Note {
+            pitch: Some(pitch), ..
+        })) => Ok((pair::half_step(pitch) + 1) as u32),
+        _ => Err(Refusal::new(43)),
+    }
+}
+
 pub fn encode(meaning: Meaning) -> u32 {
     match meaning {
         Meaning::Note(note) => encode_note(note),

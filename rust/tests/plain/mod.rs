@@ -7,6 +7,7 @@
 pub mod code;
 pub mod mus;
 pub mod pair;
+pub mod reason;
 pub mod sid;
 
 /// The number and place of document 01.
@@ -29,8 +30,22 @@ impl Refusal {
     }
 }
 
-/// Puts as many of the numbers as fit into the front of a list.
-fn put(numbers: &[u32], out: &mut [u32]) {
+/// What a file is: 1 where it begins like a PSID, 2 like an RSID; else 3 where it has the voices of
+/// a MUS song, 0 where it has not.
+pub fn kind(file: &[u8]) -> u32 {
+    if file.starts_with(b"PSID") {
+        1
+    } else if file.starts_with(b"RSID") {
+        2
+    } else if mus::has_voices(file) {
+        3
+    } else {
+        0
+    }
+}
+
+/// Puts as many of the cells as fit into the front of a list.
+fn put<T: Copy>(numbers: &[T], out: &mut [T]) {
     let count = numbers.len().min(out.len());
     out[..count].copy_from_slice(&numbers[..count]);
 }

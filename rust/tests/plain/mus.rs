@@ -1,4 +1,5 @@
-//! Sidplayer MUS files in PRG form: acceptance, and the listing of a voice's events.
+//! Sidplayer MUS files in PRG form: acceptance, the places of its parts, and the listing of a
+//! voice's events.
 
 use super::{pair, put, Refusal};
 
@@ -65,20 +66,19 @@ pub fn accept(file: &[u8]) -> Result<[Voice; 3], Refusal> {
     Ok(voices)
 }
 
-/// Refusals 21 to 26, and where the voices lie.
-fn container(file: &[u8]) -> Result<[Voice; 3], Refusal> {
+/// Refusals 21 to 24, and where the voices lie.
+fn places(file: &[u8]) -> Result<[Voice; 3], Refusal> {
     if file.len() < 8 {
         return Err(Refusal::new(21));
     }
-    let word = |at: usize| usize::from(u16::from_le_bytes([file[at], file[at + 1]]));
-    if file.len() > 65_536 || word(0) + file.len() - 2 > 65_536 {
+    if file.len() > 65_536 || word(file, 0) + file.len() - 2 > 65_536 {
         return Err(Refusal::new(22));
     }
     let mut offset = 8;
     let voices = [2, 4, 6].map(|at| {
         let voice = Voice {
             offset,
-            length: word(at),
+            length: word(file, at),
             events: 0,
             walked: 0,
         };
@@ -91,9 +91,26 @@ fn container(file: &[u8]) -> Result<[Voice; 3], Refusal> {
     if offset > file.len() {
         return Err(Refusal::new(24));
     }
-    match text_end(&file[offset..]) {
+    Ok(voices)
+}
+
+/// Two bytes, low byte first.
+fn word(file: &[u8], at: usize) -> usize {
+    usize::from(u16::from_le_bytes([file[at], file[at + 1]]))
+}
+
+/// Where the text begins: after the third voice.
+fn text_start(voices: &[Voice; 3]) -> usize {
+    voices[2].offset + voices[2].length
+}
+
+/// Refusals 21 to 26, and where the voices lie.
+fn container(file: &[u8]) -> Result<[Voice; 3], Refusal> {
+    let voices = places(file)?;
+    let start = text_start(&voices);
+    match text_end(&file[start..]) {
         None => Err(Refusal::new(25)),
-        Some(end) if offset + end < file.len() => Err(Refusal::new(26)),
+        Some(end) if start + end < file.len() => Err(Refusal::new(26)),
         Some(_) => Ok(voices),
     }
 }
@@ -109,6 +126,42 @@ fn text_end(text: &[u8]) -> Option<usize> {
         end += length + 1;
     }
     (text.get(end) == Some(&0)).then_some(end + 1)
+}
+
+/// Whether 21 to 24 let the file pass.
+pub fn has_voices(file: &[u8]) -> bool {
+    places(file).is_ok()
+}
+
+/// The load address of an accepted file.
+pub fn load(file: &[u8]) -> Result<u32, Refusal> {
+    accept(file)?;
+    Ok(word(file, 0) as u32)
+}
+
+/// Offset of one of the five text lines and its length without the $0D, as many of the two numbers
+/// as fit. There are none for another line.
+pub fn line_into(file: &[u8], line: u32, out: &mut [u32]) -> Result<u32, Refusal> {
+    let voices = accept(file)?;
+    if !(1..=5).contains(&line) {
+        return Ok(0);
+    }
+    let mut offset = text_start(&voices);
+    let mut lines = file[offset..].split(|&b| b == 0x0D);
+    for before in lines.by_ref().take(line as usize - 1) {
+        offset += before.len() + 1;
+    }
+    let length = lines.next().map_or(0, <[u8]>::len);
+    put(&[offset as u32, length as u32], out);
+    Ok(2)
+}
+
+/// Offset and number of pairs of each voice, as many numbers as fit; 21 to 24 alone refuse.
+pub fn voices_into(file: &[u8], out: &mut [u32]) -> Result<u32, Refusal> {
+    let voices = places(file)?;
+    let numbers = voices.map(|voice| [voice.offset as u32, voice.length as u32 / 2]);
+    put(&numbers.concat(), out);
+    Ok(6)
 }
 
 /// Refusals 27 to 29, pair by pair.

@@ -184,6 +184,20 @@ fn read_pitch(second: u8) -> Option<Pitch> {
     })
 }
 
+/// The half-step of a pitch: -1 to 96 for those that some pair has.
+pub fn half_step(pitch: Pitch) -> i32 {
+    let letter = match pitch.letter {
+        Letter::C => 0,
+        Letter::D => 2,
+        Letter::E => 4,
+        Letter::F => 5,
+        Letter::G => 7,
+        Letter::A => 9,
+        Letter::B => 11,
+    };
+    12 * i32::from(pitch.octave) + letter + i32::from(pitch.accidental)
+}
+
 /// The double accidental that a letter can have: sharp for C D F G, flat for E A B.
 fn doubled(letter: Letter) -> i8 {
     match letter {
