@@ -14,12 +14,14 @@
  * voice's first pair), else 0. tt_number, tt_value and tt_place take an answer apart.
  *
  * A refusal leaves every list as it was. Cells that a call does not fill keep what they held. A
- * call that puts numbers into a list answers how many there are, also where fewer fit.
+ * call that hands out a fixed set of numbers, or a phrase, answers how many there are, also where
+ * fewer fit. tt_mus_list, which is asked for a window, answers how many cells are filled.
  *
  * Names. A cell of a list is named by its call: TT_FIELD_.. of tt_sid_fields, TT_ACCEPT_.. of
- * tt_mus_accept, TT_VOICES_.. of tt_mus_voices, TT_LINE_.. of tt_mus_line; the last of each, .._CELLS,
- * is how many there are. A value is named by what it is a value of: TT_REFUSED_.., TT_KIND_..,
- * TT_CLOCK_.., TT_MODEL_.., TT_SPEED_... A later release adds names and moves none.
+ * tt_mus_accept, TT_VOICES_.. of tt_mus_voices, TT_LINE_.. of tt_mus_line; after them .._GROUP is
+ * how many a voice has and .._CELLS how many there are. A value is named by what it is a value
+ * of: TT_REFUSED_.., TT_KIND_.., TT_CLOCK_.., TT_MODEL_.., TT_SPEED_... A later release adds names
+ * and moves none.
  */
 #ifndef TURFTANGLE_H
 #define TURFTANGLE_H
@@ -231,8 +233,8 @@ uint64_t tt_mus_load(const uint8_t *file, size_t file_n);
 uint64_t tt_mus_line(const uint8_t *file, size_t file_n, uint32_t line, uint32_t *out,
                      size_t out_n);
 
-/* Where the three voices lie, also in a file that 25 to 33 refuse: so the place of such a refusal
- * can be named by voice and pair. Value: TT_VOICES_CELLS. Refusals: 21 to 24.
+/* Where the three voices lie, also in a file that 25 to 33 refuse: so the place of 27 to 33 can be
+ * named by voice and pair. Value: TT_VOICES_CELLS. Refusals: 21 to 24.
  * out: as many of the voices' numbers as fit. */
 uint64_t tt_mus_voices(const uint8_t *file, size_t file_n, uint32_t *out, size_t out_n);
 

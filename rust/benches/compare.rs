@@ -295,7 +295,7 @@ fn parts() {
         "tt_mus_load, a flat voice of 30,000 pairs, notes",
         1,
         &mut [()],
-        |()| keep(mus::load(file())),
+        |()| keep(mus::load_address(file())),
         |()| keep(apart(|| plain::mus::load(file()))),
     );
     contest(

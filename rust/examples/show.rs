@@ -1,7 +1,7 @@
 //! Says what the library says of files: `cargo run --release --example show -- FILE..`
 
 use std::{env, fs};
-use turftangle::{kind, latin1, mus, pair, sid, Kind, Refusal, Span};
+use turftangle::{kind, latin1, mus, pair, sid, Kind, Reason, Refusal, Span};
 
 fn main() {
     for name in env::args().skip(1) {
@@ -21,8 +21,14 @@ fn show(name: &str, file: &[u8]) {
     };
     if let Err(refusal) = shown {
         println!("{name}: {kind}, {refusal}");
-        if let Ok(Some((voice, number))) = mus::pair_at(file, refusal.place) {
-            println!("  that is pair {number} of voice {voice}, counted from 0");
+        match (mus::pair_at(file, refusal.place), refusal.reason) {
+            (Ok(Some((voice, _))), Reason::TooDeep | Reason::TooLong) => {
+                println!("  that is voice {voice}");
+            }
+            (Ok(Some((voice, number))), _) => {
+                println!("  that is pair {number} of voice {voice}, counted from 0");
+            }
+            _ => {}
         }
     }
 }
@@ -54,7 +60,7 @@ fn tune(name: &str, file: &[u8]) -> Result<(), Refusal> {
 /// A MUS song: its lines, each voice's counts and its first events.
 fn song(name: &str, file: &[u8]) -> Result<(), Refusal> {
     let voices = mus::accept(file)?;
-    println!("{name}: MUS, load ${:04X}", mus::load(file)?);
+    println!("{name}: MUS, load ${:04X}", mus::load_address(file)?);
     for number in 1..=5 {
         let line = mus::line(file, number)?.unwrap_or_default();
         println!("  line {number}: {}", text(file, line));
@@ -65,7 +71,7 @@ fn song(name: &str, file: &[u8]) -> Result<(), Refusal> {
             voice.offset, voice.pairs, voice.events, voice.walked
         );
         for event in mus::events(file, number)?.take(8) {
-            let at = event.offset as usize;
+            let at = event.offset;
             let meaning = pair::read(file[at], file[at + 1])?;
             println!(
                 "    event {} at {}, jiffy {}: {meaning}",

@@ -9,8 +9,11 @@
 //! * [`pair`]: one pair of a MUS voice, read and written
 //! * [`kind`] says which of them a file is
 //!
-//! The functions whose names end in `_into` or `_code` take and hand out the library's own numbers,
-//! for callers that want no types of ours.
+//! [`mus::list`] and the functions whose names end in `_into` or `_code` take and hand out numbers and
+//! lists, as the C calls do, for callers that want no types of ours.
+//!
+//! Offsets, lengths and counts are `usize`, addresses `u16`, the numbers of voices, lines and songs
+//! `u32`, those of events `u64`.
 //!
 //! ```
 //! use turftangle::{kind, latin1, mus, sid, Kind, Refusal};
@@ -47,7 +50,7 @@ pub mod sid;
 mod span;
 
 pub use kind::{kind, Kind};
-pub use refusal::{reason_into, Reason, Refusal};
+pub use refusal::{reason_into, Reason, Refusal, PHRASE_MOST};
 pub use span::{latin1, Span};
 
 /// The Rust blocks of the documents, run as doctests.

@@ -17,7 +17,7 @@
 //! ];
 //! let mut told = Vec::new();
 //! for event in mus::events(&song, 1)? {
-//!     let at = event.offset as usize;
+//!     let at = event.offset;
 //!     let meaning = pair::read(song[at], song[at + 1])?;
 //!     told.push(format!("{}: {meaning}", event.jiffy));
 //! }
@@ -36,30 +36,38 @@ pub use events::{events, Event, Events};
 use crate::{raw, Refusal, Span};
 
 /// How many numbers [`accept_into`] has to give: four for each voice.
-pub const VOICE_NUMBERS: usize = 12;
+pub const ACCEPT_CELLS: usize = 12;
 /// How many numbers [`voices_into`] has to give: two for each voice.
-pub const PLACE_NUMBERS: usize = 6;
+pub const VOICES_CELLS: usize = 6;
+/// How many numbers [`line_into`] has to give.
+pub const LINE_CELLS: usize = 2;
 
 /// What acceptance reports of a voice.
+///
+/// A later release may add fields.
 #[derive(Clone, Copy, Debug, Default, PartialEq, Eq, Hash)]
+#[non_exhaustive]
 pub struct Voice {
     /// The file offset of its first pair.
-    pub offset: u32,
+    pub offset: usize,
     /// Its stored pairs.
-    pub pairs: u32,
+    pub pairs: usize,
     /// Its events when played.
-    pub events: u32,
+    pub events: usize,
     /// The pairs walked when it is played.
-    pub walked: u32,
+    pub walked: usize,
 }
 
 /// Where a voice lies in its file.
+///
+/// A later release may add fields.
 #[derive(Clone, Copy, Debug, Default, PartialEq, Eq, Hash)]
+#[non_exhaustive]
 pub struct VoicePlace {
     /// The file offset of its first pair.
-    pub offset: u32,
+    pub offset: usize,
     /// Its stored pairs.
-    pub pairs: u32,
+    pub pairs: usize,
 }
 
 /// The three voices of an accepted song.
@@ -71,18 +79,19 @@ pub struct VoicePlace {
 /// # Examples
 ///
 /// ```
-/// use turftangle::mus::{accept, Voice};
+/// use turftangle::mus::accept;
 /// # let song = include_bytes!(concat!(env!("CARGO_MANIFEST_DIR"), "/../crates/listing/stdin"));
 ///
 /// let [first, second, third] = accept(song)?;
-/// assert_eq!(first, Voice { offset: 8, pairs: 5, events: 5, walked: 9 });
-/// assert_eq!(second, Voice { offset: 18, pairs: 1, events: 1, walked: 1 });
-/// assert_eq!(third, Voice { offset: 20, ..second });
+/// assert_eq!((first.offset, first.pairs), (8, 5));
+/// assert_eq!((first.events, first.walked), (5, 9));
+/// assert_eq!((second.offset, third.offset), (18, 20));
 /// # Ok::<(), turftangle::Refusal>(())
 /// ```
 pub fn accept(file: &[u8]) -> Result<[Voice; 3], Refusal> {
-    let mut cells = [0; VOICE_NUMBERS];
+    let mut cells = [0; ACCEPT_CELLS];
     accept_into(file, &mut cells)?;
+    let cells = cells.map(|cell| cell as usize);
     Ok([0, 4, 8].map(|at| Voice {
         offset: cells[at],
         pairs: cells[at + 1],
@@ -101,16 +110,16 @@ pub fn accept(file: &[u8]) -> Result<[Voice; 3], Refusal> {
 /// # Examples
 ///
 /// ```
-/// use turftangle::mus::{accept_into, VOICE_NUMBERS};
+/// use turftangle::mus::{accept_into, ACCEPT_CELLS};
 /// # let song = include_bytes!(concat!(env!("CARGO_MANIFEST_DIR"), "/../crates/listing/stdin"));
 ///
 /// let mut numbers = [0; 5];
-/// assert_eq!(accept_into(song, &mut numbers)? as usize, VOICE_NUMBERS);
+/// assert_eq!(accept_into(song, &mut numbers)?, ACCEPT_CELLS);
 /// assert_eq!(numbers, [8, 5, 5, 9, 18]);
 /// # Ok::<(), turftangle::Refusal>(())
 /// ```
-pub fn accept_into(file: &[u8], out: &mut [u32]) -> Result<u32, Refusal> {
-    Refusal::split(raw::mus_accept(file, out))
+pub fn accept_into(file: &[u8], out: &mut [u32]) -> Result<usize, Refusal> {
+    Refusal::split_count(raw::mus_accept(file, out))
 }
 
 /// The load address of an accepted song.
@@ -123,16 +132,17 @@ pub fn accept_into(file: &[u8], out: &mut [u32]) -> Result<u32, Refusal> {
 ///
 /// ```
 /// # let song = include_bytes!(concat!(env!("CARGO_MANIFEST_DIR"), "/../crates/listing/stdin"));
-/// assert_eq!(turftangle::mus::load(song)?, 0x0900);
+/// assert_eq!(turftangle::mus::load_address(song)?, 0x0900);
 /// # Ok::<(), turftangle::Refusal>(())
 /// ```
-pub fn load(file: &[u8]) -> Result<u16, Refusal> {
+pub fn load_address(file: &[u8]) -> Result<u16, Refusal> {
     // An address is two bytes of the file.
     Refusal::split(raw::mus_load(file)).map(|address| address as u16)
 }
 
 /// Where a text line of an accepted song lies, without its $0D; None for a number that is not 1 to
-/// 5.
+/// 5. Its bytes are PETSCII: capital letters, digits and most signs are those of ASCII, the others
+/// are not those of ISO 8859-1.
 ///
 /// # Errors
 ///
@@ -150,9 +160,9 @@ pub fn load(file: &[u8]) -> Result<u16, Refusal> {
 /// # Ok::<(), turftangle::Refusal>(())
 /// ```
 pub fn line(file: &[u8], number: u32) -> Result<Option<Span>, Refusal> {
-    let mut cells = [0; 2];
+    let mut cells = [0; LINE_CELLS];
     let count = line_into(file, number, &mut cells)?;
-    Ok((count == 2).then_some(Span {
+    Ok((count == LINE_CELLS).then_some(Span {
         offset: cells[0] as usize,
         length: cells[1] as usize,
     }))
@@ -178,8 +188,8 @@ pub fn line(file: &[u8], number: u32) -> Result<Option<Span>, Refusal> {
 /// assert_eq!(line_into(song, 0, &mut numbers)?, 0);
 /// # Ok::<(), turftangle::Refusal>(())
 /// ```
-pub fn line_into(file: &[u8], number: u32, out: &mut [u32]) -> Result<u32, Refusal> {
-    Refusal::split(raw::mus_line(file, number, out))
+pub fn line_into(file: &[u8], number: u32, out: &mut [u32]) -> Result<usize, Refusal> {
+    Refusal::split_count(raw::mus_line(file, number, out))
 }
 
 /// Where the three voices lie, also in a song that is refused with 25 to 33.
@@ -191,20 +201,21 @@ pub fn line_into(file: &[u8], number: u32, out: &mut [u32]) -> Result<u32, Refus
 /// # Examples
 ///
 /// ```
-/// use turftangle::{mus, mus::VoicePlace, Reason};
+/// use turftangle::{mus, Reason};
 /// # let song = include_bytes!(concat!(
 /// #     env!("CARGO_MANIFEST_DIR"), "/../crates/cardcheck/data/unclosed.mus"));
 ///
 /// assert_eq!(mus::accept(song).unwrap_err().reason, Reason::Structure);
 /// let [first, second, third] = mus::voices(song)?;
-/// assert_eq!(first, VoicePlace { offset: 8, pairs: 25 });
-/// assert_eq!(second, VoicePlace { offset: 58, pairs: 5 });
-/// assert_eq!(third, VoicePlace { offset: 68, pairs: 1 });
+/// assert_eq!((first.offset, first.pairs), (8, 25));
+/// assert_eq!((second.offset, second.pairs), (58, 5));
+/// assert_eq!((third.offset, third.pairs), (68, 1));
 /// # Ok::<(), turftangle::Refusal>(())
 /// ```
 pub fn voices(file: &[u8]) -> Result<[VoicePlace; 3], Refusal> {
-    let mut cells = [0; PLACE_NUMBERS];
+    let mut cells = [0; VOICES_CELLS];
     voices_into(file, &mut cells)?;
+    let cells = cells.map(|cell| cell as usize);
     Ok([0, 2, 4].map(|at| VoicePlace {
         offset: cells[at],
         pairs: cells[at + 1],
@@ -221,20 +232,21 @@ pub fn voices(file: &[u8]) -> Result<[VoicePlace; 3], Refusal> {
 /// # Examples
 ///
 /// ```
-/// use turftangle::mus::{voices_into, PLACE_NUMBERS};
+/// use turftangle::mus::{voices_into, VOICES_CELLS};
 /// # let song = include_bytes!(concat!(env!("CARGO_MANIFEST_DIR"), "/../crates/listing/stdin"));
 ///
-/// let mut numbers = [0; PLACE_NUMBERS];
+/// let mut numbers = [0; VOICES_CELLS];
 /// assert_eq!(voices_into(song, &mut numbers)?, 6);
 /// assert_eq!(numbers, [8, 5, 18, 1, 20, 1]);
 /// # Ok::<(), turftangle::Refusal>(())
 /// ```
-pub fn voices_into(file: &[u8], out: &mut [u32]) -> Result<u32, Refusal> {
-    Refusal::split(raw::mus_voices(file, out))
+pub fn voices_into(file: &[u8], out: &mut [u32]) -> Result<usize, Refusal> {
+    Refusal::split_count(raw::mus_voices(file, out))
 }
 
 /// Which voice (1 to 3) and which pair of it (counted from 0) begins at a file offset, such as the
-/// place of a refusal; None where none does.
+/// place of a refusal from 27 to 31; None where none does. The place of 32 and 33 is the voice's first
+/// pair, and stands for the whole voice.
 ///
 /// # Errors
 ///
@@ -253,7 +265,7 @@ pub fn voices_into(file: &[u8], out: &mut [u32]) -> Result<u32, Refusal> {
 /// assert_eq!(mus::pair_at(song, 57)?, None);
 /// # Ok::<(), turftangle::Refusal>(())
 /// ```
-pub fn pair_at(file: &[u8], place: u32) -> Result<Option<(u32, u32)>, Refusal> {
+pub fn pair_at(file: &[u8], place: usize) -> Result<Option<(u32, usize)>, Refusal> {
     let mut places = (1..).zip(voices(file)?);
     Ok(places.find_map(|(number, voice)| {
         let distance = place.checked_sub(voice.offset)?;
@@ -291,6 +303,5 @@ pub fn list(
     offsets: &mut [u32],
     jiffies: &mut [u32],
 ) -> Result<usize, Refusal> {
-    let answer = raw::mus_list(file, voice, first, offsets, jiffies);
-    Refusal::split(answer).map(|count| count as usize)
+    Refusal::split_count(raw::mus_list(file, voice, first, offsets, jiffies))
 }

@@ -143,7 +143,7 @@ impl Reason {
     #[must_use]
     pub fn phrase(self) -> String {
         let length = reason_into(self.number(), &mut []);
-        let mut bytes = vec![0; length as usize];
+        let mut bytes = vec![0; length];
         reason_into(self.number(), &mut bytes);
         // The phrases are ASCII.
         crate::latin1(&bytes)
@@ -156,21 +156,24 @@ impl fmt::Display for Reason {
     }
 }
 
+/// No phrase has more bytes than this.
+pub const PHRASE_MOST: usize = 80;
+
 /// Puts as much as fits of the phrase for a refusal's number into the first cells of `out`; answers
 /// how long the whole phrase is, 0 for a number without a phrase.
 ///
 /// ```
-/// use turftangle::{reason_into, Reason};
+/// use turftangle::{reason_into, Reason, PHRASE_MOST};
 ///
-/// let mut bytes = [b'.'; 100];
-/// let length = reason_into(43, &mut bytes) as usize;
+/// let mut bytes = [b'.'; PHRASE_MOST];
+/// let length = reason_into(43, &mut bytes);
 /// assert_eq!(bytes[..length], *Reason::NoPair.phrase().as_bytes());
 /// assert_eq!(bytes[length], b'.');
-/// assert_eq!(reason_into(43, &mut [0; 2]) as usize, length);
+/// assert_eq!(reason_into(43, &mut [0; 2]), length);
 /// assert_eq!(reason_into(0, &mut bytes), 0);
 /// ```
-pub fn reason_into(number: u32, out: &mut [u8]) -> u32 {
-    raw::reason(number, out) as u32
+pub fn reason_into(number: u32, out: &mut [u8]) -> usize {
+    raw::reason(number, out) as usize
 }
 
 /// Why the library refuses, and where.
@@ -191,7 +194,7 @@ pub struct Refusal {
     pub reason: Reason,
     /// For 27 to 33 in a MUS file the file offset of the pair, for 32 and 33 of the voice's first
     /// pair; else 0.
-    pub place: u32,
+    pub place: usize,
 }
 
 impl Refusal {
@@ -208,13 +211,19 @@ impl Refusal {
         }
         // A test holds every number that the archive answers to Reason::ALL.
         let reason = Reason::from_number(number).expect("the library refuses with its own numbers");
-        Err(Refusal { reason, place: low })
+        let place = low as usize;
+        Err(Refusal { reason, place })
+    }
+
+    /// The same where the value is how many numbers there are.
+    pub(crate) fn split_count(answer: u64) -> Result<usize, Refusal> {
+        Refusal::split(answer).map(|count| count as usize)
     }
 
     /// The library's number for the reason.
     ///
     /// ```
-    /// assert_eq!(turftangle::mus::load(b"short").unwrap_err().number(), 21);
+    /// assert_eq!(turftangle::mus::load_address(b"short").unwrap_err().number(), 21);
     /// ```
     #[must_use]
     pub fn number(self) -> u32 {

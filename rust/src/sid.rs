@@ -7,9 +7,9 @@ use crate::{raw, Refusal, Span};
 use std::fmt;
 
 /// How many fields [`fields_into`] has to give.
-pub const FIELDS: usize = 21;
+pub const FIELD_CELLS: usize = 21;
 /// How many bytes of memory a load takes.
-pub const MEMORY: usize = 65_536;
+pub const MEMORY_SIZE: usize = 65_536;
 
 /// Which of the two formats a tune has.
 #[derive(Clone, Copy, Debug, PartialEq, Eq, Hash)]
@@ -178,11 +178,11 @@ pub struct Header {
     /// The version of the format.
     pub version: u32,
     /// The effective load address.
-    pub load: u32,
+    pub load: u16,
     /// The effective init address.
-    pub init: u32,
+    pub init: u16,
     /// The play address.
-    pub play: u32,
+    pub play: u16,
     /// How many songs there are.
     pub songs: u32,
     /// The start song; 1 where the file has 0.
@@ -239,16 +239,16 @@ pub fn read(file: &[u8]) -> Result<(), Refusal> {
 /// # Examples
 ///
 /// ```
-/// use turftangle::sid::{fields_into, FIELDS};
+/// use turftangle::sid::{fields_into, FIELD_CELLS};
 /// # let tune = include_bytes!(concat!(env!("CARGO_MANIFEST_DIR"), "/../crates/sidinfo/stdin"));
 ///
 /// let mut fields = [0; 3];
-/// assert_eq!(fields_into(tune, &mut fields)? as usize, FIELDS);
+/// assert_eq!(fields_into(tune, &mut fields)?, FIELD_CELLS);
 /// assert_eq!(fields, [0, 2, 0x1000]); // PSID, version 2, load address
 /// # Ok::<(), turftangle::Refusal>(())
 /// ```
-pub fn fields_into(file: &[u8], out: &mut [u32]) -> Result<u32, Refusal> {
-    Refusal::split(raw::sid_fields(file, out))
+pub fn fields_into(file: &[u8], out: &mut [u32]) -> Result<usize, Refusal> {
+    Refusal::split_count(raw::sid_fields(file, out))
 }
 
 /// The header of an accepted tune.
@@ -272,7 +272,7 @@ pub fn fields_into(file: &[u8], out: &mut [u32]) -> Result<u32, Refusal> {
 /// # Ok::<(), turftangle::Refusal>(())
 /// ```
 pub fn header(file: &[u8]) -> Result<Header, Refusal> {
-    let mut cells = [0; FIELDS];
+    let mut cells = [0; FIELD_CELLS];
     fields_into(file, &mut cells)?;
     let span = |at: usize| Span {
         offset: cells[at] as usize,
@@ -285,9 +285,9 @@ pub fn header(file: &[u8]) -> Result<Header, Refusal> {
             Format::Rsid
         },
         version: cells[1],
-        load: cells[2],
-        init: cells[3],
-        play: cells[4],
+        load: cells[2] as u16,
+        init: cells[3] as u16,
+        play: cells[4] as u16,
         songs: cells[5],
         start: cells[6],
         speed_field: cells[7],
@@ -303,7 +303,7 @@ pub fn header(file: &[u8]) -> Result<Header, Refusal> {
     })
 }
 
-/// Puts the payload into its place in memory, which has [`MEMORY`] bytes; every other byte keeps
+/// Puts the payload into its place in memory, which has [`MEMORY_SIZE`] bytes; every other byte keeps
 /// what it held.
 ///
 /// # Errors
@@ -316,7 +316,7 @@ pub fn header(file: &[u8]) -> Result<Header, Refusal> {
 /// use turftangle::{sid, Reason};
 /// # let tune = include_bytes!(concat!(env!("CARGO_MANIFEST_DIR"), "/../crates/sidinfo/stdin"));
 ///
-/// let mut memory = vec![0xFF; sid::MEMORY];
+/// let mut memory = vec![0xFF; sid::MEMORY_SIZE];
 /// sid::load(tune, &mut memory)?;
 /// assert_eq!(memory[0x0FFF..0x1005], [0xFF, 1, 2, 3, 4, 0xFF]);
 /// assert_eq!(sid::load(tune, &mut [0; 4]).unwrap_err().reason, Reason::MemorySize);

@@ -26,7 +26,9 @@ impl Span {
     }
 }
 
-/// Bytes of ISO 8859-1 as a String: each byte is the code point of its number.
+/// Bytes of ISO 8859-1 as a String: each byte is the code point of its number. The texts of a tune
+/// are ISO 8859-1; of the lines of a song, which are PETSCII, capital letters and digits come out
+/// right.
 ///
 /// ```
 /// assert_eq!(turftangle::latin1(b"Fr\xE8re Jacques"), "Frère Jacques");

@@ -5,7 +5,7 @@ use std::collections::BTreeSet;
 use std::fs;
 use std::path::{Path, PathBuf};
 use std::process::{Command, Output};
-use turftangle::{mus, sid, Kind, Reason};
+use turftangle::{mus, sid, Kind, Reason, PHRASE_MOST};
 
 /// The repository's top folder.
 fn top() -> PathBuf {
@@ -248,7 +248,6 @@ fn constant_name(name: &str) -> String {
 #[test]
 fn every_refusal_has_its_phrase() {
     let front = "TT_REFUSED_";
-    let most_phrase = with_front("TT_PHRASE_MOST")[0].1 as usize;
     let package = text_of(&top().join("rust/src/refusal.rs"));
     let mut given = constants();
     given.retain(|(name, _)| name.starts_with(front));
@@ -258,7 +257,7 @@ fn every_refusal_has_its_phrase() {
         let name = constant_name(&format!("{reason:?}"));
         let comment = format!("/* {} */\n    {front}{name} = ", reason.phrase());
         assert!(header.contains(&comment), "{comment}");
-        assert!(reason.phrase().len() <= most_phrase, "{comment}");
+        assert!(reason.phrase().len() <= PHRASE_MOST, "{comment}");
         let case = format!(
             "/// {}: {}\n    {reason:?} = ",
             reason.number(),
@@ -276,46 +275,56 @@ fn with_front(front: &str) -> Vec<(String, u32)> {
     constants().into_iter().filter_map(rest).collect()
 }
 
+/// The names of an enum's cases as the header has them, with their numbers.
+fn cases<T: Copy + std::fmt::Debug>(cases: &[T], number: impl Fn(T) -> u32) -> Vec<(String, u32)> {
+    let named = |&case: &T| (constant_name(&format!("{case:?}")), number(case));
+    cases.iter().map(named).collect()
+}
+
 /// The header's constants of values and counts are the Rust package's.
 #[test]
 fn header_values() {
-    let values = |pairs: &[(&str, u32)]| -> Vec<(String, u32)> {
-        pairs.iter().map(|&(n, v)| (n.to_string(), v)).collect()
-    };
+    use sid::{Clock, Model, Speed};
     let kinds = [Kind::Neither, Kind::Psid, Kind::Rsid, Kind::Mus];
-    let kinds = kinds.map(|kind| (constant_name(&format!("{kind:?}")), kind.number()));
-    assert_eq!(with_front("TT_KIND_"), kinds);
-    let clocks = [("UNKNOWN", 0), ("PAL", 1), ("NTSC", 2), ("BOTH", 3)];
-    assert_eq!(with_front("TT_CLOCK_"), values(&clocks));
-    let models = [("UNKNOWN", 0), ("MOS6581", 1), ("MOS8580", 2), ("BOTH", 3)];
-    assert_eq!(with_front("TT_MODEL_"), values(&models));
-    let speeds = [("VERTICAL_BLANK", 0), ("CIA", 1)];
-    assert_eq!(with_front("TT_SPEED_"), values(&speeds));
+    assert_eq!(with_front("TT_KIND_"), cases(&kinds, Kind::number));
+    let clocks = [Clock::Unknown, Clock::Pal, Clock::Ntsc, Clock::Both];
+    assert_eq!(with_front("TT_CLOCK_"), cases(&clocks, Clock::number));
+    let models = [Model::Unknown, Model::Mos6581, Model::Mos8580, Model::Both];
+    assert_eq!(with_front("TT_MODEL_"), cases(&models, Model::number));
+    let speeds = [Speed::VerticalBlank, Speed::Cia];
+    assert_eq!(with_front("TT_SPEED_"), cases(&speeds, Speed::bit));
     let count = |name: &str| with_front(name)[0].1 as usize;
-    assert_eq!(count("TT_MEMORY_SIZE"), sid::MEMORY);
-    assert_eq!(count("TT_FIELD_CELLS"), sid::FIELDS);
-    assert_eq!(count("TT_ACCEPT_CELLS"), mus::VOICE_NUMBERS);
-    assert_eq!(count("TT_VOICES_CELLS"), mus::PLACE_NUMBERS);
+    assert_eq!(count("TT_MEMORY_SIZE"), sid::MEMORY_SIZE);
+    assert_eq!(count("TT_FIELD_CELLS"), sid::FIELD_CELLS);
+    assert_eq!(count("TT_ACCEPT_CELLS"), mus::ACCEPT_CELLS);
+    assert_eq!(count("TT_VOICES_CELLS"), mus::VOICES_CELLS);
+    assert_eq!(count("TT_LINE_CELLS"), mus::LINE_CELLS);
+    assert_eq!(count("TT_PHRASE_MOST"), PHRASE_MOST);
 }
 
-/// The cells of a list are named one after the other; the last name is how many there are.
+/// The words of docs/INTERFACE.md's table of fields, in its order. A text or the payload has two.
+const FIELDS: &str = "RSID VERSION LOAD INIT PLAY SONGS START SPEED BASIC CLOCK MODEL START_PAGE \
+    PAGE_LENGTH TITLE TITLE_LENGTH AUTHOR AUTHOR_LENGTH RELEASED RELEASED_LENGTH PAYLOAD \
+    PAYLOAD_LENGTH";
+
+/// The cells of a list have the names of what stands there, in that order; the last names are how
+/// many a voice has, where there are three voices, and how many there are.
 #[test]
 fn header_cells() {
-    for (front, groups) in [
-        ("TT_FIELD_", 1),
-        ("TT_ACCEPT_", 3),
-        ("TT_VOICES_", 3),
-        ("TT_LINE_", 1),
+    for (front, names, voices) in [
+        ("TT_FIELD_", FIELDS, 1),
+        ("TT_ACCEPT_", "OFFSET PAIRS EVENTS WALKED", 3),
+        ("TT_VOICES_", "OFFSET PAIRS", 3),
+        ("TT_LINE_", "OFFSET LENGTH", 1),
     ] {
+        let mut wanted: Vec<(&str, u32)> = names.split_whitespace().zip(0..).collect();
+        let count = wanted.len() as u32;
+        if voices > 1 {
+            wanted.push(("GROUP", count));
+        }
+        wanted.push(("CELLS", voices * count));
         let named = with_front(front);
-        let cells = named.iter().filter(|(n, _)| n != "GROUP" && n != "CELLS");
-        let cells: Vec<u32> = cells.map(|&(_, value)| value).collect();
-        assert_eq!(
-            cells,
-            (0..cells.len() as u32).collect::<Vec<_>>(),
-            "{front}"
-        );
-        let last = named.last().expect("names");
-        assert_eq!(last, &("CELLS".to_string(), groups * cells.len() as u32));
+        let named: Vec<(&str, u32)> = named.iter().map(|(n, v)| (n.as_str(), *v)).collect();
+        assert_eq!(named, wanted, "{front}");
     }
 }

@@ -50,7 +50,7 @@ fn phrases() {
         assert_eq!(reason.to_string(), phrase);
         for cells in 0..phrase.len() + 3 {
             let mut out = vec![b'@'; cells];
-            assert_eq!(reason_into(reason.number(), &mut out), phrase.len() as u32);
+            assert_eq!(reason_into(reason.number(), &mut out), phrase.len());
             let filled = cells.min(phrase.len());
             assert_eq!(out[..filled], phrase.as_bytes()[..filled]);
             assert!(out[filled..].iter().all(|&cell| cell == b'@'));
@@ -73,7 +73,7 @@ fn numbers_without_a_phrase() {
 #[test]
 fn refusals_in_words() {
     for &reason in Reason::ALL {
-        for place in [0, 1, 56, u32::MAX] {
+        for place in [0, 1, 56, usize::MAX] {
             let refusal = Refusal { reason, place };
             let (number, phrase) = (reason.number(), reason.phrase());
             let told = match place {
@@ -345,12 +345,13 @@ fn song(passes: u8, eighths: usize) -> Vec<u8> {
 }
 
 /// Offset and jiffy of every event of a voice, by one list of the whole.
-fn listed(file: &[u8], voice: u32) -> Vec<(u32, u32)> {
-    let count = mus::accept(file).expect("accepted")[voice as usize - 1].events as usize;
+fn listed(file: &[u8], voice: u32) -> Vec<(usize, u32)> {
+    let count = mus::accept(file).expect("accepted")[voice as usize - 1].events;
     let (mut offsets, mut jiffies) = (vec![0; count + 1], vec![0; count + 1]);
     let filled = mus::list(file, voice, 0, &mut offsets, &mut jiffies);
     assert_eq!(filled, Ok(count));
-    offsets.into_iter().zip(jiffies).take(count).collect()
+    let offsets = offsets.into_iter().map(|offset: u32| offset as usize);
+    offsets.zip(jiffies).take(count).collect()
 }
 
 /// Voices that end before, at and after the ends of windows. An eighth at the tempo of the start,
@@ -449,7 +450,7 @@ fn events_of_each_voice() {
 #[test]
 fn pairs_at_every_offset() {
     assert_eq!(mus::accept(UNCLOSED).map(|_| ()).unwrap_err().number(), 30);
-    let far = [65_536, u32::MAX - 1, u32::MAX];
+    let far = [65_536, 1 << 32, usize::MAX - 1, usize::MAX];
     for place in (0..200).chain(far) {
         let expected = match place {
             8..=57 if place % 2 == 0 => Some((1, (place - 8) / 2)),
@@ -516,9 +517,9 @@ fn ask_of_tune(file: &[u8]) {
     let header = sid::header(file);
     assert_eq!(header.map(|_| ()), read);
     assert_eq!(sid::fields_into(file, &mut []).map(|_| ()), read);
-    let mut memory = vec![0; sid::MEMORY];
+    let mut memory = vec![0; sid::MEMORY_SIZE];
     assert_eq!(sid::load(file, &mut memory), read);
-    for cells in [0, 1, sid::MEMORY - 1] {
+    for cells in [0, 1, sid::MEMORY_SIZE - 1] {
         let refusal = sid::load(file, &mut memory[..cells]).unwrap_err();
         assert_eq!(refusal.reason, Reason::MemorySize);
     }
@@ -541,7 +542,7 @@ fn ask_of_song(file: &[u8]) {
     let accepted = mus::accept(file);
     let refused = accepted.map(|_| ());
     assert_eq!(mus::accept_into(file, &mut []).map(|_| ()), refused);
-    assert_eq!(mus::load(file).map(|_| ()), refused);
+    assert_eq!(mus::load_address(file).map(|_| ()), refused);
     for number in NUMBERS {
         let line = mus::line(file, number);
         assert_eq!(line.map(|_| ()), refused);
@@ -554,7 +555,7 @@ fn ask_of_song(file: &[u8]) {
     }
     for (number, voice) in (1..).zip(accepted.ok().into_iter().flatten()) {
         let events = mus::events(file, number).expect("accepted");
-        assert_eq!(events.len(), voice.events as usize);
+        assert_eq!(events.len(), voice.events);
     }
 }
 
@@ -564,7 +565,7 @@ fn ask_of_voices(file: &[u8]) {
     let refused = places.map(|_| ());
     assert_eq!(mus::voices_into(file, &mut []).map(|_| ()), refused);
     for number in NUMBERS {
-        assert_eq!(mus::pair_at(file, number).map(|_| ()), refused);
+        assert_eq!(mus::pair_at(file, number as usize).map(|_| ()), refused);
         assert!(mus::events(file, number).is_err() || mus::accept(file).is_ok());
     }
     match (places, mus::accept(file)) {

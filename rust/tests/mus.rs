@@ -72,7 +72,7 @@ fn at_the_limit() {
         mus::song(0, [&HLT, &long, &HLT], EMPTY, &mut file);
         let answer = turftangle::mus::accept(&file).map(|voices| voices[1].walked);
         let answer = answer.map_err(|refusal| (refusal.number(), refusal.place));
-        let walked = 1_048_576_usize.wrapping_add(extra as usize) as u32;
+        let walked = 1_048_576_usize.wrapping_add(extra as usize);
         let due = if extra > 0 { Err((33, 10)) } else { Ok(walked) };
         assert_eq!(answer, due, "seed {seed}");
         // beside another voice, which may be refused by itself
@@ -254,7 +254,7 @@ fn every_list_length() {
         if let Ok(voices) = turftangle::mus::accept(&file) {
             assert_eq!(plain::mus::accept_into(&file, &mut cells), Ok(12));
             let four = voices.map(|v| [v.offset, v.pairs, v.events, v.walked]);
-            assert_eq!(four.concat(), cells);
+            assert_eq!(four.concat(), cells.map(|cell| cell as usize));
         }
     }
     checker.came(Call::MusAccept, [0]);

@@ -180,7 +180,7 @@ fn refused(file: &[u8]) -> (u32, u32) {
     let plain = plain::mus::accept(file).err().expect("refused");
     assert_eq!(
         (library.number(), library.place),
-        (plain.number, plain.place)
+        (plain.number, plain.place as usize)
     );
     (plain.number, plain.place)
 }
@@ -244,7 +244,7 @@ fn kinds_of_songs() {
 /// Both readers' value and list of two cells for a line, or the number of the refusal.
 fn line(file: &[u8], number: u32) -> Result<(u32, [u32; 2]), u32> {
     let (mut ours, mut theirs) = ([7; 2], [7; 2]);
-    let library = turftangle::mus::line_into(file, number, &mut ours);
+    let library = turftangle::mus::line_into(file, number, &mut ours).map(|n| n as u32);
     let plain = plain::mus::line_into(file, number, &mut theirs);
     let library = library.map_err(|refusal| refusal.number());
     let plain = plain.map_err(|refusal| refusal.number);
@@ -255,7 +255,7 @@ fn line(file: &[u8], number: u32) -> Result<(u32, [u32; 2]), u32> {
 /// Both readers' places of the voices.
 fn voices(file: &[u8]) -> Result<[u32; 6], u32> {
     let (mut ours, mut theirs) = ([7; 6], [7; 6]);
-    let library = turftangle::mus::voices_into(file, &mut ours);
+    let library = turftangle::mus::voices_into(file, &mut ours).map(|n| n as u32);
     let plain = plain::mus::voices_into(file, &mut theirs);
     let library = library.map_err(|refusal| refusal.number());
     let plain = plain.map_err(|refusal| refusal.number);
@@ -268,7 +268,7 @@ fn voices(file: &[u8]) -> Result<[u32; 6], u32> {
 
 /// Both readers' load address.
 fn load(file: &[u8]) -> Result<u32, u32> {
-    let library = turftangle::mus::load(file).map(u32::from);
+    let library = turftangle::mus::load_address(file).map(u32::from);
     let library = library.map_err(|refusal| refusal.number());
     let plain = plain::mus::load(file).map_err(|refusal| refusal.number);
     assert_eq!(library, plain);

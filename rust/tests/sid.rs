@@ -157,9 +157,9 @@ fn header_names_the_cells() {
         let numbers = [
             h.format as u32,
             h.version,
-            h.load,
-            h.init,
-            h.play,
+            h.load.into(),
+            h.init.into(),
+            h.play.into(),
             h.songs,
             h.start,
             h.speed_field,

@@ -27,7 +27,7 @@ fn lines(name: &str) -> Vec<String> {
 }
 
 fn pair_of<T>(answer: Result<T, Refusal>) -> Result<T, (u32, u32)> {
-    answer.map_err(|refusal| (refusal.number(), refusal.place))
+    answer.map_err(|refusal| (refusal.number(), refusal.place as u32))
 }
 
 fn plain_pair_of<T>(answer: Result<T, plain::Refusal>) -> Result<T, (u32, u32)> {
@@ -35,7 +35,7 @@ fn plain_pair_of<T>(answer: Result<T, plain::Refusal>) -> Result<T, (u32, u32)> 
 }
 
 /// The line of an accepted or refused PSID or RSID file, from its 21 cells.
-fn sid_line(name: &str, answer: Result<u32, (u32, u32)>, cells: &[u32; 21]) -> String {
+fn sid_line<T>(name: &str, answer: Result<T, (u32, u32)>, cells: &[u32; 21]) -> String {
     if let Err((number, place)) = answer {
         return format!("{name} refused {number} {place}");
     }
@@ -111,11 +111,11 @@ struct Song {
 
 fn by_library(file: &[u8]) -> Result<Song, Refusal> {
     let (mut voices, mut places, mut lines) = ([0; 12], [0; 6], [(0, [0; 2]); 9]);
-    let load = mus::load(file)?.into();
+    let load = mus::load_address(file)?.into();
     mus::accept_into(file, &mut voices)?;
     mus::voices_into(file, &mut places)?;
     for (line, (count, numbers)) in ASKED.into_iter().zip(&mut lines) {
-        *count = mus::line_into(file, line, numbers)?;
+        *count = mus::line_into(file, line, numbers)? as u32;
     }
     Ok(Song {
         load,

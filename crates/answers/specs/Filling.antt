@@ -1,4 +1,5 @@
--- A call that puts numbers into a list and answers how many there are: what its two ways lead to.
+-- A call that puts numbers into a list and answers how many there are: its answer and its list, where it
+-- refuses and where it has a value.
 -- Filled          the call's answer and its list at exit are those of an outcome
 -- refusal-filled  where it refuses, with the list as it was
 -- value-filled    where it has a value, with the front of the list filled
@@ -17,7 +18,8 @@ module _ {A : Type 0} (numbers : A → List ℕ) (cells : List ℕ) where
   abbrev pub Filled : Outcome A → ℕ → List ℕ → Type 0
   Filled o answer exit = (answer ≡ packed (λ a. length (numbers a)) o) × (exit ≡ listAfter numbers o cells)
 
-  -- A refusal that is answered, with the list as it was, is the outcome's answer and list.
+  -- Where the outcome is a refusal, a call that answers it and leaves the list has the outcome's answer and
+  -- list.
   pub refusal-filled : {n p answer : ℕ} {o : Outcome A} → answer ≡ n * 0x100000000 + p → refused n p ≡ o
       → Filled o answer cells
   refusal-filled is e = (
@@ -25,7 +27,8 @@ module _ {A : Type 0} (numbers : A → List ℕ) (cells : List ℕ) where
     ap (λ (o : Outcome A). listAfter numbers o cells) e,
   )
 
-  -- So is the number of the numbers, with as many of them as fit in the front of the list.
+  -- Where the outcome is a value, so has a call that answers how many numbers there are and puts as many of
+  -- them as fit into the front of the list.
   pub value-filled : {a : A} {exit given : List ℕ} {o : Outcome A} → exit ≡ front given cells → given ≡ numbers a
       → accepted a ≡ o → Filled o (length (numbers a)) exit
   value-filled is gives e = (

@@ -10,7 +10,7 @@ use Rattle.reasons.specs.Phrases.{phraseAt}
 use Rattle.answers.specs.Apart.{upperHalf}
 
 pub record CardAnswers : Type 0 where
-  -- No value of tt_kind can be taken for a refusal: the upper half of the answer is 0,
+  -- No value of tt_kind can be taken for a refusal: the upper half of the answer is 0.
   pub kind-valued : (file : List ℕ) → upperHalf (fileKind file) ≡ 0
-  -- and none of tt_reason.
+  -- No value of tt_reason can be taken for a refusal.
   pub reason-valued : (number : ℕ) → upperHalf (length (phraseAt number)) ≡ 0

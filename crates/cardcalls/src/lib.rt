@@ -1,5 +1,5 @@
 // The calls of a card's files for C and Rust, with answers as docs/INTERFACE.md fixes them: the kind of a
-// file, and the reason for a number. Neither ever refuses; none has a requires.
+// file, and the reason for a number. Neither refuses, and neither has a requires.
 ghost use mathlib.Core.Path.{_≡_};
 ghost use lib.ListN.{length};
 ghost use Rattle.fields.specs.Parts.{front};

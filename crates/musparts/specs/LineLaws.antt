@@ -1,5 +1,5 @@
 -- A text line that is given out lies in the file, so that a caller may read its bytes there.
--- line-inside   the line and the $0D after it lie in the file
+-- line-inside   the line and the byte after it lie in the file
 use Prim.Native.Nat.{ℕ, _+_, _<_}
 use mathlib.Core.Path.{_≡_, ap, subst}
 use mathlib.Core.List.{List}
@@ -56,7 +56,7 @@ lines-inside f none =
       omega (arith, whole, rest),
     )
 
--- The line that is given out for a number, and the $0D after it, lie in the file.
+-- The line that is given out for a number, and the byte after it, lie in the file.
 pub line-inside : (f : List ℕ) (n : ℕ) (s : Span) → lineAsked f n ≡ accepted (lies s) → s .from + s .len < length f
 unfolding lineAsked
 line-inside f n s e =

@@ -10,9 +10,9 @@ use Rattle.answers.specs.Apart.{Apart}
 use Rattle.musparts.specs.Lists.{lineNumbers, placeNumbers}
 
 pub record PartAnswers (file : List ℕ) : Type 0 where
-  -- No value of tt_mus_load can be taken for a refusal,
+  -- No value of tt_mus_load can be taken for a refusal.
   pub load-apart : Apart (λ s. s .load) (musOutcome file)
-  -- none of tt_mus_line, for any line,
+  -- No value of tt_mus_line can, for any line.
   pub line-apart : (line : ℕ) → Apart (λ l. length (lineNumbers l)) (lineAsked file line)
-  -- and none of tt_mus_voices.
+  -- No value of tt_mus_voices can.
   pub voices-apart : Apart (λ v. length (placeNumbers v)) (headOutcome file)

@@ -48,7 +48,7 @@ number-step (negsuc zero) t = refl
 number-step (negsuc (suc n)) t = absurd (omega (arith, leb→le (suc n) 0 t))
 
 -- C flat 0 has the half-step -1 and B sharp 7 has 96, both 64ths; F natural 5 has 65, in a double dotted
--- quarter with a tie; C natural 4 has 48, as an absolute pitch. With a tie that one is no pair's.
+-- quarter with a tie; C natural 4 has 48, as an absolute pitch. With a tie it is the code of no pair.
 pub codes-stepped : (halfStepOutcome 0x16400CF0 ≡ accepted 0) × (halfStepOutcome 0x16400B17 ≡ accepted 97)
     × (halfStepOutcome 0x10421F05 ≡ accepted 66) × (halfStepOutcome 0x1AB00C04 ≡ accepted 49)
     × (halfStepOutcome 0x1AB01C04 ≡ refused 43 0)

@@ -71,9 +71,9 @@ pub record PairAnswers : Type 0 where
       → readAnswer (preferred a b .first) (preferred a b .second) ≡ readAnswer a b
   -- The two bytes that were written for a code are read as that code.
   pub write-read : (n : ℕ) → upperHalf (writeAnswer n) ≡ 0 → readAnswer (writeAnswer n / 256) (writeAnswer n % 256) ≡ n
-  -- No value of tt_half_step can be taken for a refusal:
+  -- No value of tt_half_step can be taken for a refusal.
   pub half-step-apart : (n : ℕ) → Apart (λ v. v) (halfStepOutcome n)
-  -- it answers a value, or 43 at place 0.
+  -- It answers a value, or 43 at place 0.
   pub half-step-refusals : (n : ℕ) → (upperHalf (stepAnswer n) ≡ 0) ⊎ (stepAnswer n ≡ refusedWith 43)
   -- For the code of a note that is no rest and that some pair has, it answers the half-step + 1 of the note's
   -- pitch, which is at most 97.

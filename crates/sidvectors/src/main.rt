@@ -1,4 +1,4 @@
-// Runs the hand-made files of data/ through read, load and speed_of_song, and shows every answer.
+// Runs the hand-made files of data/ through read, load, speed_of_song and song_speed, and shows every answer.
 // tools/sidvectors makes the files and says what each must give.
 use fields::Span;
 use files::Loaded;
@@ -121,8 +121,9 @@ fn load_line(name: &[u8], file: &[u8], memory: &mut [u8]) {
     show_cells(memory);
 }
 
-fn show_song(file: &[u8], words: &[u8], song: u64) {
-    match sidspeed::speed_of_song(file, song) {
+// A song's speed bit, or the refusal's number.
+fn show_speed(words: &[u8], answer: SongSpeed) {
+    match answer {
         SongSpeed::Bit(b) => {
             write_after(words, b as u64);
         }
@@ -130,6 +131,10 @@ fn show_song(file: &[u8], words: &[u8], song: u64) {
             write_after(words, x.number as u64);
         }
     }
+}
+
+fn show_song(file: &[u8], words: &[u8], song: u64) {
+    show_speed(words, sidspeed::speed_of_song(file, song));
 }
 
 // A line with the speed bits of songs, or the refusal's number.
@@ -145,6 +150,26 @@ fn song_line(name: &[u8], file: &[u8], songs: u16) {
     show_song(file, b" last: ", songs as u64);
     show_song(file, b" next: ", songs as u64 + 1);
     show_song(file, b" greatest: ", u64::MAX);
+    write(b"\n");
+}
+
+fn show_header_song(h: Header, words: &[u8], song: u64) {
+    show_speed(words, sid::song_speed(h, song));
+}
+
+// The same line by the header in hand.
+fn header_line(name: &[u8], h: Header, songs: u16) {
+    write(name);
+    show_header_song(h, b" header 0: ", 0);
+    show_header_song(h, b" 1: ", 1);
+    show_header_song(h, b" 2: ", 2);
+    show_header_song(h, b" 3: ", 3);
+    show_header_song(h, b" 31: ", 31);
+    show_header_song(h, b" 32: ", 32);
+    show_header_song(h, b" 33: ", 33);
+    show_header_song(h, b" last: ", songs as u64);
+    show_header_song(h, b" next: ", songs as u64 + 1);
+    show_header_song(h, b" greatest: ", u64::MAX);
     write(b"\n");
 }
 
@@ -223,6 +248,7 @@ fn report(name: &[u8], file: &[u8], first_two: bool) {
             let songs = h.songs;
             if 1 < songs {
                 song_line(name, file, songs);
+                header_line(name, h, songs);
             }
             if first_two {
                 show_tunes(name, file, h);

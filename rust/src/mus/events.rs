@@ -6,12 +6,15 @@ use std::fmt;
 use std::iter::FusedIterator;
 
 /// An event of a voice.
+///
+/// A later release may add fields.
 #[derive(Clone, Copy, Debug, PartialEq, Eq, Hash)]
+#[non_exhaustive]
 pub struct Event {
     /// Its number in the played-out voice, counted from 0.
     pub number: u64,
     /// The file offset of its pair.
-    pub offset: u32,
+    pub offset: usize,
     /// When it begins, in whole jiffies from the start of the voice.
     pub jiffy: u32,
 }
@@ -30,7 +33,7 @@ pub struct Event {
 ///
 /// let events = mus::events(song, 1)?;
 /// assert_eq!(events.len(), 5);
-/// let times: Vec<(u32, u32)> = events.map(|event| (event.offset, event.jiffy)).collect();
+/// let times: Vec<(usize, u32)> = events.map(|event| (event.offset, event.jiffy)).collect();
 /// assert_eq!(times, [(8, 0), (12, 0), (12, 1), (12, 3), (16, 5)]);
 /// assert_eq!(mus::events(song, 0).unwrap_err().reason, Reason::VoiceNumber);
 /// # Ok::<(), turftangle::Refusal>(())
@@ -43,7 +46,7 @@ pub fn events(file: &[u8], voice: u32) -> Result<Events<'_>, Refusal> {
         file,
         voice,
         next: 0,
-        end: u64::from(counts.events),
+        end: counts.events as u64,
         first: 0,
         cells: FIRST_WINDOW,
         offsets: Vec::new(),
@@ -108,7 +111,7 @@ impl Iterator for Events<'_> {
         let at = (self.next - self.first) as usize;
         let event = Event {
             number: self.next,
-            offset: self.offsets[at],
+            offset: self.offsets[at] as usize,
             jiffy: self.jiffies[at],
         };
         self.next += 1;
@@ -147,8 +150,8 @@ impl fmt::Debug for Events<'_> {
 mod tests {
     use super::*;
 
-    /// A million events, by HED 255 over 4,096 eighths: 12 windows, since 256 times 2^11 - 1 are too
-    /// few and 256 times 2^12 - 1 are enough. Windows of one length would be 4,081.
+    /// A million events, by HED 255 over 4,096 eighths: 12 windows, since 256 x (2^11 - 1) are too few
+    /// and 256 x (2^12 - 1) are enough. Windows of one length would be 4,081.
     #[test]
     fn windows_double() {
         let mut song = vec![0, 0, 0x06, 0x20, 2, 0, 2, 0, 0x36, 255];

@@ -1,4 +1,5 @@
-//! The words for a meaning, those of the program `pairs`.
+//! The words for a meaning: those of the program `pairs`, without `note`, `plain`, `-` and the
+//! half-step.
 
 use super::{Accidental, Command, Duration, Letter, Meaning, Name, Note, Shape, Tone};
 use std::fmt::{Display, Formatter, Result};

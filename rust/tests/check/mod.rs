@@ -1,8 +1,13 @@
-//! Holds the library against the plain reader, call by call: the answer, and every cell of every
-//! lent list and of some beside it.
+//! Holds the library against the plain reader, call by call: the answer as the library gives it, all
+//! 64 bits, and every cell of every lent list and of some beside it. Where a call has no list, the
+//! wrapper's answer too.
 
 // Each program that includes it uses a part of it.
 #![allow(dead_code)]
+
+// The library's functions themselves: the wrappers drop bits that these must not have.
+#[path = "../../src/raw.rs"]
+mod raw;
 
 use crate::make::rng::Rng;
 use crate::plain;
@@ -15,8 +20,17 @@ type Answer = Result<u64, (u32, u32)>;
 /// A difference, in words.
 pub type Checked = Result<(), String>;
 
-fn of_library<T: Into<u64>>(answer: Result<T, Refusal>) -> Answer {
-    answer.map(T::into).map_err(|r| (r.number(), r.place))
+/// An answer of the library taken apart; a value has all its bits.
+fn of_library(answer: u64) -> Answer {
+    match (answer >> 32) as u32 {
+        0 => Ok(answer),
+        number => Err((number, answer as u32)),
+    }
+}
+
+fn of_wrapper<T: Into<u64>>(answer: Result<T, Refusal>) -> Answer {
+    let answer = answer.map(T::into);
+    answer.map_err(|r| (r.number(), r.place as u32))
 }
 
 fn of_plain<T: Into<u64>>(answer: Result<T, plain::Refusal>) -> Answer {
@@ -164,16 +178,18 @@ impl Checker {
         self.memory.fill(MOST_MEMORY, |i| (cell(i) >> 16) as u8);
     }
 
-    /// Two answers, and whether the lists are the same; the arguments are put into words where not.
-    fn judge(
+    /// The library's answers, by itself and by the wrapper, and the plain reader's; and whether the
+    /// lists are the same. The arguments are put into words where not.
+    fn judge<const N: usize>(
         &mut self,
         call: Call,
         arguments: impl Fn() -> String,
-        [library, plain]: [Answer; 2],
+        library: [Answer; N],
+        plain: Answer,
         lists: bool,
     ) -> Checked {
         let told = || format!("{}{}", call.name(), arguments());
-        if library != plain {
+        if library.iter().any(|answer| *answer != plain) {
             return Err(format!("{}: library {library:?}, plain {plain:?}", told()));
         }
         if !lists {
@@ -187,86 +203,90 @@ impl Checker {
     pub fn kind(&mut self, file: &[u8]) -> Checked {
         let kind = plain::kind(file);
         self.kinds[kind as usize] += 1;
-        let answers = [Ok(turftangle::kind(file).number().into()), Ok(kind.into())];
-        self.judge(Call::Kind, String::new, answers, true)
+        let wrapper = Ok(turftangle::kind(file).number().into());
+        let library = [of_library(raw::kind(file)), wrapper];
+        self.judge(Call::Kind, String::new, library, Ok(kind.into()), true)
     }
 
     pub fn reason(&mut self, number: u32, length: usize, salt: u32) -> Checked {
         self.bytes.fill(length, byte_pattern(salt));
         let (ours, theirs) = self.bytes.lend(length);
-        let library = turftangle::reason_into(number, ours);
+        let library = of_library(raw::reason(number, ours));
         let plain = self.phrases.reason_into(number, theirs);
-        let answers = [Ok(library.into()), Ok(plain.into())];
         let arguments = || format!(" of {number} into {length}");
-        self.judge(Call::Reason, arguments, answers, self.bytes.same())
+        let lists = self.bytes.same();
+        self.judge(Call::Reason, arguments, [library], Ok(plain.into()), lists)
     }
 
     pub fn sid_read(&mut self, file: &[u8]) -> Checked {
-        let library = of_library(turftangle::sid::read(file).map(|()| 0_u64));
+        let wrapper = of_wrapper(turftangle::sid::read(file).map(|()| 0_u64));
+        let library = [of_library(raw::sid_read(file)), wrapper];
         let plain = of_plain(plain::sid::read(file).map(|_| 0_u64));
-        self.judge(Call::SidRead, String::new, [library, plain], true)
+        self.judge(Call::SidRead, String::new, library, plain, true)
     }
 
     pub fn sid_fields(&mut self, file: &[u8], length: usize, salt: u32) -> Checked {
         self.one.fill(length, pattern(salt));
         let (ours, theirs) = self.one.lend(length);
-        let library = of_library(turftangle::sid::fields_into(file, ours));
+        let library = of_library(raw::sid_fields(file, ours));
         let plain = of_plain(plain::sid::fields_into(file, theirs));
         let arguments = || format!(" into {length}");
         let lists = self.one.same();
-        self.judge(Call::SidFields, arguments, [library, plain], lists)
+        self.judge(Call::SidFields, arguments, [library], plain, lists)
     }
 
     pub fn sid_load(&mut self, file: &[u8], length: usize) -> Checked {
         let (ours, theirs) = self.memory.lend(length);
-        let library = of_library(turftangle::sid::load(file, ours).map(|()| 0_u64));
+        let library = of_library(raw::sid_load(file, ours));
         let plain = of_plain(plain::sid::load(file, theirs).map(|()| 0_u64));
         let arguments = || format!(" into {length}");
         let lists = self.memory.same();
-        self.judge(Call::SidLoad, arguments, [library, plain], lists)
+        self.judge(Call::SidLoad, arguments, [library], plain, lists)
     }
 
     pub fn sid_speed(&mut self, file: &[u8], song: u32) -> Checked {
-        let library = of_library(turftangle::sid::speed(file, song).map(|speed| speed.bit()));
+        let wrapper = of_wrapper(turftangle::sid::speed(file, song).map(|speed| speed.bit()));
+        let library = [of_library(raw::sid_speed(file, song)), wrapper];
         let plain = of_plain(plain::sid::speed(file, song));
         let arguments = || format!(" of {song}");
-        self.judge(Call::SidSpeed, arguments, [library, plain], true)
+        self.judge(Call::SidSpeed, arguments, library, plain, true)
     }
 
     pub fn mus_accept(&mut self, file: &[u8], length: usize, salt: u32) -> Checked {
         self.one.fill(length, pattern(salt));
         let (ours, theirs) = self.one.lend(length);
-        let library = of_library(turftangle::mus::accept_into(file, ours));
+        let library = of_library(raw::mus_accept(file, ours));
         let plain = of_plain(plain::mus::accept_into(file, theirs));
         let arguments = || format!(" into {length}");
         let lists = self.one.same();
-        self.judge(Call::MusAccept, arguments, [library, plain], lists)
+        self.judge(Call::MusAccept, arguments, [library], plain, lists)
     }
 
     pub fn mus_load(&mut self, file: &[u8]) -> Checked {
-        let library = of_library(turftangle::mus::load(file));
+        let wrapper = of_wrapper(turftangle::mus::load_address(file));
+        let library = [of_library(raw::mus_load(file)), wrapper];
         let plain = of_plain(plain::mus::load(file));
-        self.judge(Call::MusLoad, String::new, [library, plain], true)
+        self.judge(Call::MusLoad, String::new, library, plain, true)
     }
 
     pub fn mus_line(&mut self, file: &[u8], line: u32, length: usize, salt: u32) -> Checked {
         self.one.fill(length, pattern(salt));
         let (ours, theirs) = self.one.lend(length);
-        let library = of_library(turftangle::mus::line_into(file, line, ours));
+        let library = of_library(raw::mus_line(file, line, ours));
         let plain = of_plain(plain::mus::line_into(file, line, theirs));
         let arguments = || format!(" {line} into {length}");
         let lists = self.one.same();
-        self.judge(Call::MusLine, arguments, [library, plain], lists)
+        self.judge(Call::MusLine, arguments, [library], plain, lists)
     }
 
     pub fn mus_voices(&mut self, file: &[u8], length: usize, salt: u32) -> Checked {
         self.one.fill(length, pattern(salt));
         let (ours, theirs) = self.one.lend(length);
-        let library = of_library(turftangle::mus::voices_into(file, ours));
+        let library = of_library(raw::mus_voices(file, ours));
         let plain = of_plain(plain::mus::voices_into(file, theirs));
         let arguments = || format!(" into {length}");
         let lists = self.one.same();
-        self.judge(Call::MusVoices, arguments, [library, plain], lists)
+        self.judge(Call::MusVoices, arguments, [library], plain, lists)
     }
 
     /// What kind a file is, and the parts of a song: some line, into lists of some lengths.
@@ -287,37 +307,38 @@ impl Checker {
         self.two.fill(ask.jiffies, pattern(!salt));
         let (our_one, their_one) = self.one.lend(ask.offsets);
         let (our_two, their_two) = self.two.lend(ask.jiffies);
-        let library = turftangle::mus::list(file, voice, first, our_one, our_two);
+        let library = of_library(raw::mus_list(file, voice, first, our_one, our_two));
         let plain = plain::mus::list(file, voice, first, their_one, their_two);
-        let library = of_library(library.map(|n| n as u64));
         let plain = of_plain(plain.map(|n| n as u64));
         let lists = self.one.same() && self.two.same();
         let arguments = || format!(" {ask:?}");
-        self.judge(Call::MusList, arguments, [library, plain], lists)
+        self.judge(Call::MusList, arguments, [library], plain, lists)
     }
 
     pub fn pair_read(&mut self, first: u8, second: u8) -> Checked {
-        let library = of_library(turftangle::pair::read_code(first, second));
+        let wrapper = of_wrapper(turftangle::pair::read_code(first, second));
+        let library = [of_library(raw::pair_read(first, second)), wrapper];
         let plain = of_plain(plain::code::read(first, second));
         let arguments = || format!(" {first:02X} {second:02X}");
-        self.judge(Call::PairRead, arguments, [library, plain], true)
+        self.judge(Call::PairRead, arguments, library, plain, true)
     }
 
     pub fn pair_write(&mut self, code: u32) -> Checked {
-        let pair = turftangle::pair::write_code(code);
-        let library = of_library(pair.map(|pair| u64::from(u16::from_be_bytes(pair))));
+        let wrapper = of_wrapper(turftangle::pair::write_code(code).map(u16::from_be_bytes));
+        let library = [of_library(raw::pair_write(code)), wrapper];
         let plain = of_plain(plain::code::write(code));
         let arguments = || format!(" {code:08X}");
-        self.judge(Call::PairWrite, arguments, [library, plain], true)
+        self.judge(Call::PairWrite, arguments, library, plain, true)
     }
 
     pub fn half_step(&mut self, code: u32) -> Checked {
-        // the wrapper takes one off again
-        let half_step = turftangle::pair::half_step_of_code(code);
-        let library = of_library(half_step.map(|n| i64::from(n).wrapping_add(1) as u64));
+        // the wrapper takes one off
+        let wrapper = turftangle::pair::half_step_of_code(code);
+        let wrapper = of_wrapper(wrapper.map(|n| i64::from(n).wrapping_add(1) as u64));
+        let library = [of_library(raw::half_step(code)), wrapper];
         let plain = of_plain(plain::code::half_step(code));
         let arguments = || format!(" {code:08X}");
-        self.judge(Call::HalfStep, arguments, [library, plain], true)
+        self.judge(Call::HalfStep, arguments, library, plain, true)
     }
 
     /// How often each refusal came from a call, 0 counting the values.
