@@ -4,7 +4,7 @@
 -- Stepped, stepped        a code's outcome: a number of at most 97, or 43 at place 0
 -- half-step-apart, half-step-refusals, tone-stepped, stepped-tone, read-step   the laws of the call
 use Prim.Native.Nat.{ℕ, _%_, _≤_, _<_}
-use mathlib.Core.Path.{_≡_, refl, sym, _∙_, ap, subst}
+use mathlib.Core.Path.{_≡_, refl, sym, _∙_, ap}
 use mathlib.Core.Bool.{Bool, true, false, cond}
 use mathlib.Core.Logic.{_⊎_, inl, inr}
 use native.Mathlib.Omega.{arith}
@@ -22,7 +22,6 @@ use Rattle.meaning.specs.declared.Pitch.{Pitch}
 use Rattle.meaning.specs.declared.Tone.{Tone}
 use Rattle.meaning.specs.declared.Tone.the-variants.{Rest, Sounds}
 use Rattle.meaning.specs.declared.Note as declared
-use Rattle.meaning.specs.declared.Meaning.{Meaning}
 use Rattle.meaning.specs.declared.Meaning.the-variants.{Note}
 use Rattle.meaning.specs.Answers.{Bytes}
 use Rattle.meaning.specs.Pitches.{inTables, halfStep, stepOutcome}
@@ -30,7 +29,6 @@ use Rattle.note.specs.Reading.{toneOf, noteOf}
 use Rattle.note.specs.Laws.{written-note-reads}
 use Rattle.pair.specs.Pairs.{meaningOf}
 use Rattle.pair.specs.Preferred.{preferred}
-use Rattle.pairlaws.specs.Statements.{HasPair}
 use Rattle.pairlaws.specs.HalfSteps.{byte-tables, step-range}
 use Rattle.pairlaws.proofs.Laws.{reading-and-writing}
 use Rattle.codes.specs.Coding.{codeOf}

@@ -6,15 +6,12 @@ use mathlib.Core.Logic.{_⊎_, inl, inr, ⊎-elim}
 use native.Mathlib.Omega.{arith}
 use Rattle.refusals.specs.Numbers.{Outcome}
 use Rattle.refusals.specs.Numbers.Outcome.{accepted, refused}
-use Rattle.refusals.specs.Tests.{andThen}
 use Rattle.meaning.specs.declared.Meaning.{Meaning}
 use Rattle.meaning.specs.Answers.{Bytes}
-use Rattle.pair.specs.Pairs.{meaningOf, spellingOf}
+use Rattle.pair.specs.Pairs.{meaningOf}
 use Rattle.pair.specs.Preferred.{preferred}
-use Rattle.pairlaws.specs.Statements.{Means}
 use Rattle.pairlaws.proofs.Laws.{reading-and-writing}
 use Rattle.codes.specs.Coding.{codeOf}
-use Rattle.decoding.specs.Decoding.{decoded}
 use Rattle.codelaws.proofs.Laws.{coding-and-decoding}
 use Rattle.answers.specs.Answers.{packed}
 use Rattle.answers.specs.Apart.{Apart, upperHalf, value-apart, zero-valued}

@@ -2,37 +2,28 @@ use mathlib.Core.Path.{_≡_, sym, ap, _∙_}
 use borrow.Author.Needs.{needs}
 use Rattle.refusals.specs.Numbers.{Outcome}
 use Rattle.refusals.specs.Tests.{andThen}
-use Rattle.meaning.specs.declared.Meaning.{Meaning}
 use Rattle.meaning.specs.Answers.{Bytes, outcomeOfMeaning, outcomeOfBytes}
-use Rattle.pair.specs.Pairs.{spellingOf}
-use Rattle.pairlaws.proofs.Laws.{reading-and-writing}
-use Rattle.codelaws.proofs.Laws.{coding-and-decoding}
 use Rattle.answers.specs.Answers.{packed}
-use Rattle.answers.specs.Apart.{unplaced-fits}
 use Rattle.paircalls.specs.Written.{written}
 use Rattle.paircalls.specs.HalfSteps.{stepOfBytes, halfStepOutcome}
+use Rattle.paircalls.proofs.Answered.{undecoded-fits, unwritten-fits, onward}
 use Rattle.paircalls.proofs.half_step.Statement.{statement}
 use Rattle.paircalls.proofs.half_step.Tie as tie
 
--- what was written, then its half-step; and what was decoded, then written
+-- what was written, then its half-step
 stepped : {o p : Outcome Bytes} → o ≡ p
     → packed (λ n. n) (andThen o (λ b. stepOfBytes b)) ≡ packed (λ n. n) (andThen p (λ b. stepOfBytes b))
 stepped e = ap (λ (o : Outcome Bytes). packed (λ n. n) (andThen o (λ b. stepOfBytes b))) e
 
-onward : {o p : Outcome Meaning} → o ≡ p → andThen o (λ m. spellingOf m) ≡ andThen p (λ m. spellingOf m)
-onward e = ap (λ (o : Outcome Meaning). andThen o (λ m. spellingOf m)) e
-
 refused-requires : tie.Need-refused-requires
 refused-requires c κs =
-    unplaced-fits
-    (coding-and-decoding .undecoded (c .before .before .before .before .args .code) _ _
-    (sym (c .before .before .before .meaning-of .ensures) ∙ ap outcomeOfMeaning (c .before .x .given .1)) .1)
+    undecoded-fits _ (ap outcomeOfMeaning (sym (c .before .x .given .1)) ∙ c .before .before .before .meaning-of .ensures)
 
 refused-requires-2 : tie.Need-refused-requires-2
 refused-requires-2 c κs =
-    unplaced-fits
-    (reading-and-writing .unwritten (c .before .before .before .before .before .m .given .0 .0) _ _
-    (sym (c .before .before .before .write .ensures) ∙ ap outcomeOfBytes (c .before .x2 .given .1)) .1)
+    let wrote = c .before .before .before in
+    unwritten-fits (wrote .before .before .m .given .0 .0)
+    (ap outcomeOfBytes (sym (c .before .x2 .given .1)) ∙ wrote .write .ensures)
 
 returns : tie.Need-returns
 unfolding halfStepOutcome written
