@@ -1,4 +1,5 @@
--- Document 01, 'What comes back': the number of each refusal by name, and what a call comes back with.
+-- Document 01, 'What comes back', and document 02 (i): the number of each refusal by name, and what a call
+-- comes back with.
 -- Reason, numberOf   the table: why a call refuses, and its number
 -- number-above       every number of the table is above 0
 -- unplaced           a refusal with no place of its own: 'The place is 0 except for 27 to 33 in a file'
@@ -12,6 +13,7 @@ pub data Reason : Type 0 where
   musShort musPastMemory voiceLength voicesPastFile textLines bytesAfterText : Reason
   unassignedPair valueRange hltMisplaced structure hedZero tooDeep tooLong : Reason
   memorySize voiceNumber listLengths noPair noSuchSong : Reason
+  sapFirstLine sapLine sapTags sapBlock : Reason
 
 abbrev pub numberOf : Reason → ℕ
 numberOf tooShort = 1
@@ -45,6 +47,10 @@ numberOf voiceNumber = 41
 numberOf listLengths = 42
 numberOf noPair = 43
 numberOf noSuchSong = 44
+numberOf sapFirstLine = 51
+numberOf sapLine = 52
+numberOf sapTags = 53
+numberOf sapBlock = 54
 
 -- The number of every reason is above 0.
 pub number-above : (r : Reason) → 0 < numberOf r
@@ -79,6 +85,10 @@ number-above voiceNumber = lit< tt
 number-above listLengths = lit< tt
 number-above noPair = lit< tt
 number-above noSuchSong = lit< tt
+number-above sapFirstLine = lit< tt
+number-above sapLine = lit< tt
+number-above sapTags = lit< tt
+number-above sapBlock = lit< tt
 
 abbrev pub unplaced : ℕ → Refusal
 unplaced n = record { number = n; place = 0 }

@@ -1,5 +1,5 @@
-// What a refused call answers: the numbers of document 01's table 'What comes back' by name, a refusal with
-// its place, and the verdict of tests made in order.
+// What a refused call answers: the numbers of document 01's table 'What comes back' and of document 02's
+// requests by name, a refusal with its place, and the verdict of tests made in order.
 ghost use mathlib.Core.Path.{_≡_};
 ghost use Rattle.refusals.specs.Numbers.{unplaced};
 ghost use Rattle.refusals.specs.Tests.{tested};
@@ -69,6 +69,15 @@ pub const LIST_LENGTHS: u32 = 42;
 pub const NO_PAIR: u32 = 43;
 
 pub const NO_SUCH_SONG: u32 = 44;
+
+// A SAP file
+pub const SAP_FIRST_LINE: u32 = 51;
+
+pub const SAP_LINE: u32 = 52;
+
+pub const SAP_TAGS: u32 = 53;
+
+pub const SAP_BLOCK: u32 = 54;
 
 // A refusal: the paper's number, and the place in the file, 0 where the paper gives none.
 pub struct Refusal {
