@@ -1,0 +1,59 @@
+-- `stands_at` meets its contract. The invariant: the bytes compared so far are the same. Assumes nothing.
+use Prim.Native.Nat.{_≤_, _-_, _+_}
+use mathlib.Core.Path.{_≡_, refl, sym, ap, _∙_}
+use native.Mathlib.Omega.{arith}
+use lib.ListN.{length, drop, getD}
+use denote.Ref.{now}
+use borrow.Author.Needs.{needs}
+use Rattle.characters.proofs.Words.{Same, same-none, same-more, other, all}
+use Rattle.characters.proofs.stands_at.Statement.{statement}
+use Rattle.characters.proofs.stands_at.Tie as tie
+
+abbrev Inv-loop : tie.InvT-loop
+Inv-loop file at word n₀ n = (n ≤ length word) × Same file at word n
+
+abbrev μ-loop : tie.MeasureT-loop
+μ-loop file at word n₀ n = length word - n
+
+loop-holds : tie.Need-loop-holds Inv-loop μ-loop
+loop-holds c = (omega arith, same-none (now (c .before .before .args .file)) (c .before .before .args .at) (now (c .before .before .args .word)))
+
+add-byte-at : tie.Need-add-byte-at Inv-loop μ-loop
+add-byte-at c = omega arith
+
+byte-at-requires : tie.Need-byte-at-requires Inv-loop μ-loop
+byte-at-requires c κs = search needs
+
+shared-slice-read-if1 : tie.Need-shared-slice-read-if1 Inv-loop μ-loop
+shared-slice-read-if1 c = omega arith
+
+returns : tie.Need-returns Inv-loop μ-loop
+returns c = other _ _ _ _ (c .before .before .before .before .loop .inv .1) (c .before .before .before .loop-test .taken) (λ e. c .if1 .taken (c .before .before .byte-at .ensures ∙ e))
+
+add-n : tie.Need-add-n Inv-loop μ-loop
+add-n c = omega arith
+
+loop-less : tie.Need-loop-less Inv-loop μ-loop
+loop-less c = omega arith
+
+loop-again : tie.Need-loop-again Inv-loop μ-loop
+loop-again c = (omega arith, same-more _ _ _ _ (c .before .before .before .before .loop .inv .1) (c .before .before .before .loop-test .taken) (sym (c .before .before .byte-at .ensures) ∙ c .if1 .left))
+
+returns-2 : tie.Need-returns-2 Inv-loop μ-loop
+returns-2 c = all _ _ _ _ (c .before .loop .inv .1) (c .loop-test .left)
+
+pub stands-at-spec : {M : Type 1} → statement M
+stands-at-spec =
+    tie.close
+    (tie.spec
+    Inv-loop
+    μ-loop
+    loop-holds
+    add-byte-at
+    byte-at-requires
+    shared-slice-read-if1
+    returns
+    add-n
+    loop-less
+    loop-again
+    returns-2)

@@ -1,0 +1,61 @@
+-- What stands at the front of a line is the same whether the line is looked at by itself or in its file, where a
+-- byte that closes it and other bytes follow. `a` is the line, `c` the byte that closes it, `t` what follows.
+-- leading-length                 the leading bytes are at most as many as the bytes
+-- leading-stop, rest-stop        where c does not pass the test
+-- begins-stop                    where c is not the byte that is looked for
+-- Apart, stands-stop             where c is not in the word
+-- drop-stop                      what is dropped from the line
+-- digits-stop                    where c is no digit
+use Prim.Native.Nat.{ℕ, zero, suc, _+_, _≤_}
+use mathlib.Core.Path.{_≡_, refl, ap, _∙_}
+use mathlib.Core.Bool.{Bool, true, false, _&&_}
+use mathlib.Core.List.{List, [], _∷_, _++_}
+use native.Mathlib.Omega.{arith}
+use lib.ListN.{length, drop, getD}
+use lib.Seq.{drop-append-le}
+use lib.Dec.{eqb}
+use Rattle.logic.specs.Cases.{cases}
+use Rattle.characters.specs.Characters.{isDigit, leading, rest, begins, stands, digitsOf}
+
+-- The leading bytes are at most as many as the bytes.
+pub leading-length : (p : ℕ → Bool) (s : List ℕ) → length (leading p s) ≤ length s
+unfolding leading
+leading-length p [] = omega arith
+leading-length p (b ∷ bs) = let later = leading-length p bs in cases (p b) (λ e. rw e (omega arith)) (λ e. rw e (omega arith))
+
+module _ (c : ℕ) (t : List ℕ) where
+  -- The leading bytes of a line are the same in its file, where the byte that closes it does not pass.
+  pub leading-stop : (p : ℕ → Bool) → p c ≡ false → (a : List ℕ) → leading p (a ++ c ∷ t) ≡ leading p a
+  unfolding leading
+  leading-stop p e [] = rw e
+  leading-stop p e (b ∷ bs) = rw (leading-stop p e bs)
+
+  -- What is dropped from a line leaves the same in its file, with the bytes that follow the line.
+  pub drop-stop : (n : ℕ) (a : List ℕ) → n ≤ length a → drop n (a ++ c ∷ t) ≡ drop n a ++ c ∷ t
+  drop-stop n a h = drop-append-le n a (c ∷ t) h
+
+  -- What follows the leading bytes of a line is the same in its file, with the bytes that follow the line.
+  pub rest-stop : (p : ℕ → Bool) → p c ≡ false → (a : List ℕ) → rest p (a ++ c ∷ t) ≡ rest p a ++ c ∷ t
+  rest-stop p e a = rw (leading-stop p e a) (drop-stop (length (leading p a)) a (leading-length p a))
+
+  -- A line begins with a byte in its file as by itself, where that byte is neither 0 nor the one that closes it.
+  pub begins-stop : (b : ℕ) → eqb c b ≡ false → eqb 0 b ≡ false → (a : List ℕ) → begins b (a ++ c ∷ t) ≡ begins b a
+  begins-stop b e z [] = rw (e, z)
+  begins-stop b e z (x ∷ xs) = refl
+
+  -- no byte of a word is 0 or the one that closes a line
+  abbrev pub Apart : List ℕ → Type 0
+  Apart [] = Unit
+  Apart (b ∷ bs) = (eqb c b ≡ false) × (eqb 0 b ≡ false) × Apart bs
+
+  -- A word stands at the front of a line in its file as by itself, where no byte of it is 0 or closes the line.
+  pub stands-stop : (w : List ℕ) → Apart w → (a : List ℕ) → stands w (a ++ c ∷ t) ≡ stands w a
+  unfolding stands
+  stands-stop [] h a = refl
+  stands-stop (b ∷ bs) h [] = rw (h .0, h .1)
+  stands-stop (b ∷ bs) h (x ∷ xs) = rw (stands-stop bs (h .2) xs)
+
+  -- The digits at the front of a line are the same in its file, where the byte that closes it is no digit.
+  pub digits-stop : (base : ℕ) → isDigit base c ≡ false → (a : List ℕ) → digitsOf base (a ++ c ∷ t) ≡ digitsOf base a
+  unfolding digitsOf
+  digits-stop base e a = rw (leading-stop (isDigit base) e a)
