@@ -4,18 +4,23 @@
 -- leading-stop, rest-stop        where c does not pass the test
 -- begins-stop                    where c is not the byte that is looked for
 -- Apart, stands-stop             where c is not in the word
+-- stands-long                    bytes that begin with a word are not fewer than the word's
 -- drop-stop                      what is dropped from the line
 -- digits-stop                    where c is no digit
-use Prim.Native.Nat.{ℕ, zero, suc, _+_, _≤_}
-use mathlib.Core.Path.{_≡_, refl, ap, _∙_}
-use mathlib.Core.Bool.{Bool, true, false, _&&_}
+-- digits-below                   the number of so many digits is below the power of the base
+use Prim.Native.Nat.{ℕ, suc, _+_, _*_, _^_, _≤_, _<_}
+use mathlib.Core.Path.{_≡_, refl, ap, sym, _∙_}
+use mathlib.Core.Bool.{Bool, true, false, false≢true, _&&_}
 use mathlib.Core.List.{List, [], _∷_, _++_}
 use native.Mathlib.Omega.{arith}
+use native.Mathlib.Nat.{add-mul, one-mul, mul-assoc, mul-le-mul-right, pow-zero, pow-succ'}
 use lib.ListN.{length, drop, getD}
 use lib.Seq.{drop-append-le}
 use lib.Dec.{eqb}
+use borrow.Author.Tests.{ltb-true}
 use Rattle.logic.specs.Cases.{cases}
-use Rattle.characters.specs.Characters.{isDigit, leading, rest, begins, stands, digitsOf}
+use Rattle.logic.specs.Truth.{both-right}
+use Rattle.characters.specs.Characters.{digitValue, isDigit, leading, rest, begins, stands, numberFrom, digitsOf}
 
 -- The leading bytes are at most as many as the bytes.
 pub leading-length : (p : ℕ → Bool) (s : List ℕ) → length (leading p s) ≤ length s
@@ -55,7 +60,34 @@ module _ (c : ℕ) (t : List ℕ) where
   stands-stop (b ∷ bs) h [] = rw (h .0, h .1)
   stands-stop (b ∷ bs) h (x ∷ xs) = rw (stands-stop bs (h .2) xs)
 
+  -- Bytes that begin with a word are at least as many as those of the word, where none of them is 0.
+  pub stands-long : (w : List ℕ) → Apart w → (s : List ℕ) → stands w s ≡ true → length w ≤ length s
+  unfolding stands
+  stands-long [] h s e = omega arith
+  stands-long (b ∷ bs) h [] e = absurd (false≢true (rw (h .1) at e))
+  stands-long (b ∷ bs) h (x ∷ xs) e = omega (arith, stands-long bs (h .2) xs (both-right (eqb x b) (stands bs xs) e))
+
   -- The digits at the front of a line are the same in its file, where the byte that closes it is no digit.
   pub digits-stop : (base : ℕ) → isDigit base c ≡ false → (a : List ℕ) → digitsOf base (a ++ c ∷ t) ≡ digitsOf base a
   unfolding digitsOf
   digits-stop base e a = rw (leading-stop (isDigit base) e a)
+
+-- what a number and so many digits of a base are below
+number-below : (base n : ℕ) (s : List ℕ) → numberFrom base n (leading (isDigit base) s) < (n + 1) * base ^ length (leading (isDigit base) s)
+unfolding leading numberFrom
+number-below base n [] = rw (pow-zero base) (omega arith)
+number-below base n (b ∷ bs) =
+    cases (isDigit base b)
+    (λ e.
+    let later = leading (isDigit base) bs in
+    let d = ltb-true (digitValue b) base e in
+    let step : n * base + digitValue b + 1 ≤ (n + 1) * base = omega (arith, add-mul n 1 base, one-mul base) in
+    let scaled = mul-le-mul-right (base ^ length later) step in
+    let power : (n + 1) * base * base ^ length later ≡ (n + 1) * base ^ suc (length later) = mul-assoc (n + 1) base (base ^ length later) ∙ ap (λ (x : ℕ). (n + 1) * x) (sym (pow-succ' base (length later))) in
+    rw e (omega (arith, number-below base (n * base + digitValue b) bs, scaled, power)))
+    (λ e. rw (e, pow-zero base) (omega arith))
+
+-- The number of digits of a base is below the base raised to how many digits there are.
+pub digits-below : (base : ℕ) (s : List ℕ) → digitsOf base s .value < base ^ digitsOf base s .len
+unfolding digitsOf
+digits-below base s = omega (arith, number-below base 0 s, one-mul (base ^ length (leading (isDigit base) s)))
