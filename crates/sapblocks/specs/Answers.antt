@@ -3,7 +3,7 @@
 -- numbered   the block of a number, counted from 0, or that there is no such block
 -- walkedIn   that the blocks are not whole, or how many there are and the one of a number
 use Prim.Native.Nat.{ℕ, zero, suc, _+_}
-use mathlib.Core.Bool.{Bool, true, false, cond}
+use mathlib.Core.Bool.{cond}
 use mathlib.Core.List.{List, [], _∷_}
 use lib.ListN.{length, drop}
 use Rattle.sapblocks.specs.declared.Block.{Block}

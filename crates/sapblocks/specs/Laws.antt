@@ -1,5 +1,5 @@
 -- Laws of the blocks of a SAP file.
--- skip-drop       what is skipped first is not looked at: the first number of blocksFrom is nothing but a start
+-- skip-drop       what is skipped first is not looked at: the first number of blocksFrom is only a start
 --                 further on
 -- blocksOn        the blocks of a file from an offset on, at which a block must follow or need not
 -- goingOn         the blocks from an offset on, by what stands there

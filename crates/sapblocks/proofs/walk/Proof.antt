@@ -1,5 +1,5 @@
--- `walk` meets its contract. The invariant: what is counted and found so far and the blocks that are left make
--- the answer, and no more blocks are counted than bytes are passed. Assumes nothing.
+-- `walk` meets its contract. The invariant: what is counted and found so far and the blocks that are left
+-- make the answer, and no more blocks are counted than bytes are passed. Assumes nothing.
 use Prim.Native.Nat.{_≤_, _-_}
 use mathlib.Core.Path.{sym, _∙_}
 use mathlib.Core.Logic.{⊎-elim}
