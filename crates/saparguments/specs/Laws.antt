@@ -3,6 +3,8 @@
 -- Within     an argument that fits lies within the bytes
 -- decimal-stop .. time-stop, decimal-within .. time-within   so for each kind
 -- clock-small, fraction-small   how great their values are
+-- AtMost     the value of an argument is at most so great
+-- decimal-most .. time-most   so for each kind; decimal-least, letter-type   what else is known of two
 use Prim.Native.Nat.{ℕ, zero, suc, _+_, _*_, _^_, _-_, _<_, _≤_}
 use mathlib.Core.Path.{_≡_, refl, sym, ap, _∙_, subst}
 use mathlib.Core.Bool.{Bool, true, false, cond, not, _&&_, _||_}
@@ -206,3 +208,75 @@ time-within s n v e = go (clockAt s) refl e
     go : (c : Argument) → clockAt s ≡ c → withClock s c ≡ Good n v → n ≤ length s
     go Bad p q = absurd (let z : _≡_ {A = ℕ} 0 1 = cc in omega arith)
     go (Good len seconds) p q = omega (arith, clock-within s len seconds p, fraction len seconds (drop len s) (fractionAt (drop len s)) refl q, length-drop len s)
+
+abbrev pub AtMost : ℕ → (List ℕ → Argument) → Type 0
+AtMost most k = (s : List ℕ) (n v : ℕ) → k s ≡ Good n v → v ≤ most
+
+-- A decimal number is at most its greatest.
+pub decimal-most : (low high : ℕ) → AtMost high (decimalAt low high)
+decimal-most low high s n v e =
+    let d = digitsOf 10 s in
+    let g = good-if (unpadded d s && leb low (d .value) && leb (d .value) high) (d .len) (d .value) n v e in
+    omega (arith, g .2, leb-true (d .value) high (both (unpadded d s && leb low (d .value)) (leb (d .value) high) (g .0) .1))
+
+-- A decimal number is at least its least.
+pub decimal-least : (low high : ℕ) (s : List ℕ) (n v : ℕ) → decimalAt low high s ≡ Good n v → low ≤ v
+decimal-least low high s n v e =
+    let d = digitsOf 10 s in
+    let g = good-if (unpadded d s && leb low (d .value) && leb (d .value) high) (d .len) (d .value) n v e in
+    let tests = both (unpadded d s && leb low (d .value)) (leb (d .value) high) (g .0) in
+    omega (arith, g .2, leb-true low (d .value) (both (unpadded d s) (leb low (d .value)) (tests .0) .1))
+
+-- An address is at most $FFFF.
+pub address-most : AtMost 0xFFFF addressAt
+address-most s n v e =
+    let d = digitsOf 16 s in
+    let g = good-if (eqb (d .len) 4) (d .len) (d .value) n v e in
+    omega (arith, g .2, subst (λ (k : ℕ). d .value < 16 ^ k) (eqb-true (d .len) 4 (g .0)) (digits-below 16 s))
+
+-- COVOX's address is D600.
+pub covox-most : AtMost 0xD600 covoxAt
+covox-most s n v e =
+    let d = digitsOf 16 s in
+    let g = good-if (eqb (d .len) 4 && eqb (d .value) 0xD600) (d .len) (d .value) n v e in
+    omega (arith, g .2, eqb-true (d .value) 0xD600 (both (eqb (d .len) 4) (eqb (d .value) 0xD600) (g .0) .1))
+
+-- A type's letter is one of five.
+pub letter-type : (s : List ℕ) (n v : ℕ) → letterAt s ≡ Good n v → isType v ≡ true
+letter-type s n v e = let g = good-if (isType (getD s 0 0)) 1 (getD s 0 0) n v e in subst (λ (b : ℕ). isType b ≡ true) (g .2) (g .0)
+
+-- A text has at most 120 characters.
+pub text-most : AtMost 120 textAt
+text-most s n v e =
+    let k = length (leading isTextCharacter (drop 1 s)) in
+    let opened = begins 0x22 s in
+    let closed = begins 0x22 (rest isTextCharacter (drop 1 s)) in
+    let g = good-if (opened && closed && leb k 120) (k + 2) k n v e in
+    omega (arith, g .2, leb-true k 120 (both (opened && closed) (leb k 120) (g .0) .1))
+
+-- A duration is at most 99 minutes, 99 seconds and 999 milliseconds.
+pub time-most : AtMost 12079999 timeAt
+time-most s n v e = go (clockAt s) refl e
+  where
+    looped : (len ms : ℕ) (r : List ℕ) → ms ≤ 6039999 → loopedAt len ms r ≡ Good n v → v ≤ 12079999
+    looped len ms r h q =
+        cases (stands loopWord r)
+        (λ p. let k = rw p at q in let is : 2 * ms + 1 ≡ v = cc in omega arith)
+        (λ p. let k = rw p at q in let is : 2 * ms ≡ v = cc in omega arith)
+
+    fraction : (len seconds : ℕ) (r : List ℕ) → seconds ≤ 6039 → (f : Argument) → fractionAt r ≡ f → withFraction len seconds r f ≡ Good n v → v ≤ 12079999
+    fraction len seconds r h Bad f q = absurd (let z : _≡_ {A = ℕ} 0 1 = cc in omega arith)
+    fraction len seconds r h (Good k ms) f q = looped (len + k) (seconds * 1000 + ms) (drop k r) (omega (arith, fraction-small r k ms f)) q
+
+    go : (c : Argument) → clockAt s ≡ c → withClock s c ≡ Good n v → v ≤ 12079999
+    go Bad p q = absurd (let z : _≡_ {A = ℕ} 0 1 = cc in omega arith)
+    go (Good len seconds) p q = fraction len seconds (drop len s) (omega (arith, clock-small s len seconds p)) (fractionAt (drop len s)) refl q
+
+-- A type's letter is at most S.
+pub letter-most : AtMost 0x53 letterAt
+letter-most s n v e =
+    let t = letter-type s n v e in
+    cases (eqb v 0x42) (λ p. omega (arith, eqb-true v 0x42 p))
+    (λ p. cases (eqb v 0x43) (λ q. omega (arith, eqb-true v 0x43 q))
+    (λ q. cases (eqb v 0x44) (λ r. omega (arith, eqb-true v 0x44 r))
+    (λ r. cases (eqb v 0x53) (λ k. omega (arith, eqb-true v 0x53 k)) (λ k. omega (arith, eqb-true v 0x52 (rw (p, q, r, k) at t))))))

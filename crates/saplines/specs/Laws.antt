@@ -2,12 +2,14 @@
 -- value-stop, argument-stop, line-stop        what stands at the front of a line is the same in its file, where 0D
 --                                             follows the line
 -- value-within, argument-within, line-within  what fits lies within the bytes
+-- mostOf, value-most, line-most               how great the value of a tag's argument can be
 use Prim.Native.Nat.{ℕ, _+_, _≤_}
 use mathlib.Core.Path.{_≡_, refl, sym, ap, _∙_}
 use mathlib.Core.Bool.{true, false}
 use mathlib.Core.List.{List, [], _∷_, _++_}
 use native.Mathlib.Omega.{arith}
 use lib.ListN.{length, drop, length-drop}
+use lib.Dec.{lit≤}
 use Rattle.logic.specs.Cases.{cases}
 use Rattle.characters.specs.Characters.{begins, most}
 use Rattle.characters.specs.Laws.{begins-stop, drop-stop}
@@ -19,7 +21,7 @@ use Rattle.saptags.specs.Tags.{nameOf, tagAt}
 use Rattle.saptags.specs.Laws.{tag-stop, tag-stands, name-long}
 use Rattle.saparguments.specs.declared.Argument.{Argument}
 use Rattle.saparguments.specs.declared.Argument.the-variants.{Bad, Good}
-use Rattle.saparguments.specs.Laws.{Stops, Within, decimal-stop, decimal-within, address-stop, address-within, covox-stop, covox-within, letter-stop, letter-within, text-stop, text-within, time-stop, time-within}
+use Rattle.saparguments.specs.Laws.{Stops, Within, decimal-stop, decimal-within, address-stop, address-within, covox-stop, covox-within, letter-stop, letter-within, text-stop, text-within, time-stop, time-within, AtMost, decimal-most, address-most, covox-most, letter-most, text-most, time-most}
 use Rattle.saplines.specs.declared.Line.{Line}
 use Rattle.saplines.specs.declared.Line.the-variants as line
 use Rattle.saplines.specs.Lines.{valueAt, alone, spaced, argumentAfter, withArgument, withTag, lineAt}
@@ -110,3 +112,85 @@ line-within s t n v e = go (tagAt s) refl e
     go : (k : Named) → tagAt s ≡ k → withTag s k ≡ line.Good t n v → (length (nameOf t) ≤ n) × (n ≤ length s)
     go Unknown p q = absurd (bad q)
     go (Known u) p q = argument u (name-long u s (tag-stands u s p)) (argumentAfter u (drop (length (nameOf u)) s)) refl q
+
+abbrev pub mostOf : Tag → ℕ
+mostOf tag.Author = 120
+mostOf tag.Name = 120
+mostOf tag.Date = 120
+mostOf tag.Songs = 32
+mostOf tag.DefSong = most
+mostOf tag.Stereo = 1
+mostOf tag.Ntsc = 1
+mostOf tag.Type = 0x53
+mostOf tag.FastPlay = 32767
+mostOf tag.Init = 0xFFFF
+mostOf tag.Music = 0xFFFF
+mostOf tag.Player = 0xFFFF
+mostOf tag.Covox = 0xD600
+mostOf tag.Time = 12079999
+
+-- what does not fit has no value
+bad-most : (n v : ℕ) → Bad ≡ Good n v → (m : ℕ) → v ≤ m
+bad-most n v e m = absurd (let z : _≡_ {A = ℕ} 0 1 = cc in omega arith)
+
+-- The value of a tag's argument is at most so great.
+pub value-most : (t : Tag) → AtMost (mostOf t) (valueAt t)
+value-most tag.Author = text-most
+value-most tag.Name = text-most
+value-most tag.Date = text-most
+value-most tag.Songs = decimal-most 1 32
+value-most tag.DefSong = decimal-most 0 most
+value-most tag.Stereo = λ s n v e. bad-most n v e 1
+value-most tag.Ntsc = λ s n v e. bad-most n v e 1
+value-most tag.Type = letter-most
+value-most tag.FastPlay = decimal-most 1 32767
+value-most tag.Init = address-most
+value-most tag.Music = address-most
+value-most tag.Player = address-most
+value-most tag.Covox = covox-most
+value-most tag.Time = time-most
+
+most-above : (t : Tag) → 1 ≤ mostOf t
+most-above tag.Author = lit≤ tt
+most-above tag.Name = lit≤ tt
+most-above tag.Date = lit≤ tt
+most-above tag.Songs = lit≤ tt
+most-above tag.DefSong = lit≤ tt
+most-above tag.Stereo = lit≤ tt
+most-above tag.Ntsc = lit≤ tt
+most-above tag.Type = lit≤ tt
+most-above tag.FastPlay = lit≤ tt
+most-above tag.Init = lit≤ tt
+most-above tag.Music = lit≤ tt
+most-above tag.Player = lit≤ tt
+most-above tag.Covox = lit≤ tt
+most-above tag.Time = lit≤ tt
+
+argument-most : (t : Tag) → AtMost (mostOf t) (argumentAfter t)
+unfolding argumentAfter
+argument-most t s n v e =
+    cases (alone t) (λ p. let q = rw p at e in let one : 1 ≡ v = cc in omega (arith, one, most-above t))
+    (λ p. cases (begins 0x20 s) (λ b. go (valueAt t (drop 1 s)) refl (rw (p, b) at e)) (λ b. bad-most n v (rw (p, b) at e) (mostOf t)))
+  where
+    go : (a : Argument) → valueAt t (drop 1 s) ≡ a → spaced a ≡ Good n v → v ≤ mostOf t
+    go Bad q r = bad-most n v r (mostOf t)
+    go (Good m w) q r = let is : w ≡ v = cc in omega (arith, value-most t (drop 1 s) m w q)
+
+-- The value of a line is at most so great as its tag allows.
+pub line-most : (s : List ℕ) (t : Tag) (n v : ℕ) → lineAt s ≡ line.Good t n v → v ≤ mostOf t
+unfolding lineAt
+line-most s t n v e = go (tagAt s) e
+  where
+    bad : line.Bad ≡ line.Good t n v → ⊥
+    bad q = let z : _≡_ {A = ℕ} 0 1 = cc in omega arith
+
+    argument : (u : Tag) (a : Argument) → argumentAfter u (drop (length (nameOf u)) s) ≡ a → withArgument u a ≡ line.Good t n v → v ≤ mostOf t
+    argument u Bad p q = absurd (bad q)
+    argument u (Good m w) p q =
+        let tag : u ≡ t = cc in
+        let value : w ≡ v = cc in
+        omega (arith, value, ap mostOf tag, argument-most u (drop (length (nameOf u)) s) m w p)
+
+    go : (k : Named) → withTag s k ≡ line.Good t n v → v ≤ mostOf t
+    go Unknown q = absurd (bad q)
+    go (Known u) q = argument u (argumentAfter u (drop (length (nameOf u)) s)) refl q

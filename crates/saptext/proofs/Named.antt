@@ -65,7 +65,7 @@ module _ (t : Tag) (l : StoredLine) where
 -- where a line is of a tag, its argument does not stand at 0
 place-above : (t : Tag) (from : ℕ) (e : Line) → isOf t e ≡ true → eqb (placeOf (statedBy from e)) 0 ≡ false
 place-above t from Bad h = absurd (false≢true h)
-place-above t from (Good u n v) h = ne-eqb (from + length (nameOf u) + 1) 0 (λ q. omega arith)
+place-above t from (Good u n v) h = ne-eqb (from + length (nameOf u) + 2) 0 (λ q. omega arith)
 
 -- A tag is absent exactly where no line is of it.
 pub zero-place : (t : Tag) (ls : List StoredLine) → eqb (placeOf (nthOf t 0 ls)) 0 ≡ eqb (countOf t ls) 0
@@ -118,7 +118,7 @@ cells-same g h e = ap cellsOf (λ i t. e t i)
 
 module _ (part : Stated → ℕ) (song : ℕ) (ls : List StoredLine) (l : StoredLine) (t : Tag) (n v : ℕ) (e : entryOf (l .bytes) ≡ Good t n v) where
   abbrev place : ℕ
-  place = l .from + length (nameOf t) + 1
+  place = l .from + length (nameOf t) + 2
 
   abbrev cellsBefore : List ℕ
   cellsBefore = cellsOf (λ u. part (counts song ls u))
@@ -208,7 +208,7 @@ module _ (song : ℕ) where
 
   module _ (ls : List StoredLine) (l : StoredLine) (t : Tag) (n v : ℕ) (e : entryOf (l .bytes) ≡ Good t n v) where
     abbrev placed : ℕ
-    placed = l .from + length (nameOf t) + 1
+    placed = l .from + length (nameOf t) + 2
 
     noted-more : countOf t ls ≡ whichOf song t → (times : ℕ) → times ≡ countOf tag.Time (ls ++ l ∷ []) → More ls l (noted (cellsFor ls) times (indexOf t) placed v)
     noted-more k times is = λ i.

@@ -44,7 +44,7 @@ stepTo song c i place value =
 
 abbrev pub stepWith : ℕ → Cells → ℕ → Line → Step
 stepWith song c from Bad = bad
-stepWith song c from (Good t n value) = stepTo song c (indexOf t) (from + length (nameOf t) + 1) value
+stepWith song c from (Good t n value) = stepTo song c (indexOf t) (from + length (nameOf t) + 2) value
 
 abbrev pub step : ℕ → Cells → StoredLine → Step
 step song c l = stepWith song c (l .from) (entryOf (l .bytes))

@@ -98,7 +98,7 @@ module _ (f : List ℕ) (at : ℕ) where
       text-good i place value next e = go (lineAt (drop at f)) refl e
         where
           read-on : (t : Tag) (n w : ℕ) → lineAt (drop at f) ≡ line.Good t n w → stands lineEnd (drop n (drop at f)) ≡ true
-              → Good (indexOf t) (at + length (nameOf t) + 1) w (at + n + 2) ≡ Good i place value next
+              → Good (indexOf t) (at + length (nameOf t) + 2) w (at + n + 2) ≡ Good i place value next
               → run song (kept cells) (textOn f at) ≡ run song (stepTo song cells i place value) (textOn f next)
           read-on t n w q k r =
               let p = cut (drop at f) .first in
@@ -107,7 +107,7 @@ module _ (f : List ℕ) (at : ℕ) where
               let len : n ≡ length p = omega (arith, two .1, line-within p t n w same .1) in
               let is : entryOf p ≡ line.Good t n w = rw (same, eq-eqb n (length p) len) in
               let number : indexOf t ≡ i = cc in
-              let where-it-stands : at + length (nameOf t) + 1 ≡ place = cc in
+              let where-it-stands : at + length (nameOf t) + 2 ≡ place = cc in
               let it : w ≡ value = cc in
               let on : at + n + 2 ≡ next = cc in
               ap (run song (kept cells)) (text-closed (two .0) next (omega (arith, on, len)))
@@ -161,6 +161,6 @@ module _ (f : List ℕ) (at : ℕ) where
     entry-open k = rw (e, k)
 
     pub entry-read : (name number : ℕ) → name ≡ length (nameOf t) → number ≡ indexOf t → stands lineEnd (drop (at + n) f) ≡ true
-        → Good number (at + name + 1) w (at + n + 2) ≡ entryAt f at
+        → Good number (at + name + 2) w (at + n + 2) ≡ entryAt f at
     unfolding entryAt
     entry-read name number m i k = rw (e, k, m, i)

@@ -32,7 +32,7 @@ lineEnd = 0x0D ∷ 0x0A ∷ []
 abbrev pub closedAt : List ℕ → ℕ → Line → Entry
 closedAt f at line.Bad = Bad
 closedAt f at (line.Good t n value) =
-    cond (stands lineEnd (drop (at + n) f)) (Good (indexOf t) (at + length (nameOf t) + 1) value (at + n + 2)) Bad
+    cond (stands lineEnd (drop (at + n) f)) (Good (indexOf t) (at + length (nameOf t) + 2) value (at + n + 2)) Bad
 
 unfoldable pub entryAt : List ℕ → ℕ → Entry
 entryAt f at = closedAt f at (lineAt (drop at f))

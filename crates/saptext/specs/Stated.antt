@@ -4,7 +4,8 @@
 -- countOf     how many lines are of a tag
 -- anyBad      some line is bad
 -- again       'No tag but TIME comes twice'
--- Stated      what a line of a tag states: where its argument stands in the file, and its value; or that there is none
+-- Stated      what a line of a tag states: where a text that it has stands in the file, and its argument's value; or that
+--             there is no such line
 -- nthOf       the line of a tag by its number, counted from 0
 -- stated      the line of a tag
 -- timeOf      the TIME of a song, counted from 0
@@ -84,10 +85,10 @@ pub data Stated : Type 0 where
   absent : Stated
   given : ℕ → ℕ → Stated
 
--- the argument stands after the tag's name and one space
+-- a text stands after the tag's name, one space and one quote
 abbrev pub statedBy : ℕ → Line → Stated
 statedBy from Bad = absent
-statedBy from (Good t n value) = given (from + length (nameOf t) + 1) value
+statedBy from (Good t n value) = given (from + length (nameOf t) + 2) value
 
 -- a line of the tag is number 0 and the later ones count on; any other line does not count
 abbrev pub chosen : Bool → ℕ → Stated → (ℕ → Stated) → Stated

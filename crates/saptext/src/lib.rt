@@ -11,14 +11,14 @@ use saplines::Line;
 const TIME: usize = 13;
 
 // What stands at a place as a line with the CR LF that closes it: nothing that fits, or its tag's number,
-// where its argument stands, the argument's value and where the next line begins.
+// where a text that it has stands, its argument's value and where the next line begins.
 pub enum Entry {
     Bad,
     Good(usize, usize, u32, usize),
 }
 
 // What the lines state. Where they are good (ended), FF FF stands at end; of each tag by its number, places
-// has where its argument stands, 0 where the tag is absent, and values the argument's value. Of TIME these
+// has where a text that it has stands, 0 where the tag is absent, and values its argument's value. Of TIME these
 // are of the song asked for, and times is how many TIMEs there are.
 pub struct Lines {
     pub ended: bool,
@@ -52,7 +52,7 @@ fn entry_at(file: &[u8], at: usize) -> Entry
             let name = saptags::name_length(tag);
             let number = saptags::number_of(tag);
             if characters::stands_at(file, at + len, b"\r\n") {
-                Entry::Good(number, at + name + 1, value, at + len + 2)
+                Entry::Good(number, at + name + 2, value, at + len + 2)
             } else {
                 Entry::Bad
             }
