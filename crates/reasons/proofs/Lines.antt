@@ -16,7 +16,7 @@ use Rattle.reasons.specs.Phrases.{table, found, phraseAt}
 
 -- every line of the table has a number below this one
 abbrev bound : ℕ
-bound = 45
+bound = 55
 
 abbrev bounded : List Reason → Bool
 bounded [] = true

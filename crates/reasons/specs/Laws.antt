@@ -17,7 +17,7 @@ use Rattle.logic.specs.Cases.{cases}
 use Rattle.logic.specs.Truth.{neither}
 use Rattle.logic.specs.Every.{all-left, all-right, each, each-at}
 use Rattle.refusals.specs.Numbers.{Reason, numberOf}
-use Rattle.refusals.specs.Numbers.Reason.{tooShort, magic, version, dataOffset, rsidReserved, songs, reservedBits, musPayload, noPayload, pastMemory, rsidLoad, rsidInit, freePages, musShort, musPastMemory, voiceLength, voicesPastFile, textLines, bytesAfterText, unassignedPair, valueRange, hltMisplaced, structure, hedZero, tooDeep, tooLong, memorySize, voiceNumber, listLengths, noPair, noSuchSong}
+use Rattle.refusals.specs.Numbers.Reason.{tooShort, magic, version, dataOffset, rsidReserved, songs, reservedBits, musPayload, noPayload, pastMemory, rsidLoad, rsidInit, freePages, musShort, musPastMemory, voiceLength, voicesPastFile, textLines, bytesAfterText, unassignedPair, valueRange, hltMisplaced, structure, hedZero, tooDeep, tooLong, memorySize, voiceNumber, listLengths, noPair, noSuchSong, sapFirstLine, sapLine, sapTags, sapBlock}
 use Rattle.reasons.specs.Phrases.{phraseOf, table, byteText, found, phraseAt}
 
 -- The phrase of a reason's number is the phrase of that reason, as bytes.
@@ -53,6 +53,10 @@ phrase-at voiceNumber = refl
 phrase-at listLengths = refl
 phrase-at noPair = refl
 phrase-at noSuchSong = refl
+phrase-at sapFirstLine = refl
+phrase-at sapLine = refl
+phrase-at sapTags = refl
+phrase-at sapBlock = refl
 
 abbrev pub hasRow : List Reason → ℕ → Bool
 hasRow [] n = false

@@ -1,4 +1,4 @@
--- Document 01, 'What comes back': the reason for each number, in words for a person.
+-- Document 01, 'What comes back', and document 02 (i): the reason for each number, in words for a person.
 -- phraseOf          a phrase for each line of the table
 -- table             the table's lines
 -- byteText          a text as bytes
@@ -11,7 +11,7 @@ use mathlib.Core.List.{List, [], _∷_}
 use mathlib.Core.Bool.{cond}
 use lib.Dec.{eqb}
 use Rattle.refusals.specs.Numbers.{Reason, numberOf}
-use Rattle.refusals.specs.Numbers.Reason.{tooShort, magic, version, dataOffset, rsidReserved, songs, reservedBits, musPayload, noPayload, pastMemory, rsidLoad, rsidInit, freePages, musShort, musPastMemory, voiceLength, voicesPastFile, textLines, bytesAfterText, unassignedPair, valueRange, hltMisplaced, structure, hedZero, tooDeep, tooLong, memorySize, voiceNumber, listLengths, noPair, noSuchSong}
+use Rattle.refusals.specs.Numbers.Reason.{tooShort, magic, version, dataOffset, rsidReserved, songs, reservedBits, musPayload, noPayload, pastMemory, rsidLoad, rsidInit, freePages, musShort, musPastMemory, voiceLength, voicesPastFile, textLines, bytesAfterText, unassignedPair, valueRange, hltMisplaced, structure, hedZero, tooDeep, tooLong, memorySize, voiceNumber, listLengths, noPair, noSuchSong, sapFirstLine, sapLine, sapTags, sapBlock}
 
 abbrev pub phraseOf : Reason → String
 phraseOf tooShort = "too short for a PSID or RSID header"
@@ -45,6 +45,10 @@ phraseOf voiceNumber = "the voice is not 1, 2 or 3"
 phraseOf listLengths = "the two lists have unequal lengths"
 phraseOf noPair = "no pair of bytes has this meaning"
 phraseOf noSuchSong = "the file has no song of this number"
+phraseOf sapFirstLine = "its first line is not SAP"
+phraseOf sapLine = "a line of its header is bad or stands twice, or no FF FF follows it"
+phraseOf sapTags = "its tags do not fit its type or its number of songs"
+phraseOf sapBlock = "a block is bad, cut off or missing"
 
 abbrev pub table : List Reason
 table =
@@ -79,6 +83,10 @@ table =
     ∷ listLengths
     ∷ noPair
     ∷ noSuchSong
+    ∷ sapFirstLine
+    ∷ sapLine
+    ∷ sapTags
+    ∷ sapBlock
     ∷ []
 
 abbrev pub byteText : String → List ℕ

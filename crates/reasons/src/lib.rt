@@ -55,6 +55,10 @@ pub fn reason(number: u32, out: &mut [u8]) -> usize
         the voice is not 1, 2 or 3\n\
         the two lists have unequal lengths\n\
         no pair of bytes has this meaning\n\
-        the file has no song of this number\n";
+        the file has no song of this number\n\n\n\n\n\n\n\
+        its first line is not SAP\n\
+        a line of its header is bad or stands twice, or no FF FF follows it\n\
+        its tags do not fit its type or its number of songs\n\
+        a block is bad, cut off or missing\n";
     put(fields::entry_at(phrases, b'\n', number as usize), out)
 }
