@@ -6,7 +6,8 @@ use mathlib.Core.Bool.{not}
 use mathlib.Core.List.{List}
 use lib.ListN.{getD}
 use lib.Dec.{eqb}
-use Rattle.saprules.specs.Against.{stateOf, statesOf, valueOr}
+use Rattle.saptext.specs.Reading.{stateOf}
+use Rattle.saprules.specs.Against.{statesOf, valueOr}
 use Rattle.saprules.specs.Laws.{stated-place}
 use Rattle.sapheader.specs.declared.Player.{Player}
 use Rattle.sapheader.specs.declared.TextPlace.{TextPlace}

@@ -1,6 +1,6 @@
 -- Document 02 (i), 53: 'tags against type (none, R, missing, barred) or against SONGS'. What a tag states is a place and a
 -- value, or that the tag is absent.
--- stateOf, statesOf         what a tag states, by its cells in the answer of the code that reads the lines
+-- statesOf                  what a tag states, by its cells in the answer of the code that reads the lines
 -- isStated, valueOr         a tag is there; its value, or another one where it is absent
 -- isB .. isS, otherThanC    the type's letter
 -- typeAgainst               the tags against the type
@@ -17,9 +17,7 @@ use Rattle.saptags.specs.declared.Tag.the-variants as tag
 use Rattle.saptags.specs.Tags.{indexOf}
 use Rattle.saptext.specs.Stated.{Stated}
 use Rattle.saptext.specs.Stated.Stated.{absent, given}
-
-abbrev pub stateOf : ℕ → ℕ → Stated
-stateOf place value = cond (eqb place 0) absent (given place value)
+use Rattle.saptext.specs.Reading.{stateOf}
 
 abbrev pub statesOf : List ℕ → List ℕ → Tag → Stated
 statesOf places values t = stateOf (getD places (indexOf t) 0) (getD values (indexOf t) 0)

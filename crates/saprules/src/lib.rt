@@ -1,6 +1,7 @@
 // The tests of a SAP file's tags against its type and its number of songs (53).
 ghost use mathlib.Core.Path.{_≡_};
-ghost use Rattle.saprules.specs.Against.{valueOr, stateOf, statesOf, typeAgainst, against};
+ghost use Rattle.saptext.specs.Reading.{stateOf};
+ghost use Rattle.saprules.specs.Against.{valueOr, statesOf, typeAgainst, against};
 use saptext::Lines;
 
 // The tags against the type: its letter, and whether INIT, MUSIC and PLAYER are there.

@@ -26,6 +26,7 @@ use Rattle.saptext.specs.Stated.{entryOf, isBad, isOf, tagged, oneMore, 
 use Rattle.saptext.specs.Stated.Stated.{absent, given}
 use Rattle.saptext.specs.Reading.{placeOf, valueOf, whichOf, cellsOf, counts, TextRead, textRead}
 use Rattle.saptext.specs.Reading.TextRead.{spoilt, read}
+use Rattle.saptext.specs.Laws.{cell-at}
 use Rattle.saptext.proofs.Running.{Cells, Step, noted, timed, stepWith, runLines, lines-bad}
 use Rattle.saptext.proofs.Running.Step.{bad, kept}
 
@@ -75,23 +76,6 @@ zero-place t (l ∷ ls) =
     cases (tagged t l)
     (λ e. rw (e, place-above t (l .from) (entryOf (l .bytes)) e, ne-eqb (1 + countOf t ls) 0 (λ q. omega arith)))
     (λ e. rw e (zero-place t ls))
-
--- a cell by its tag's number
-pub cell-at : (g : Tag → ℕ) (t : Tag) → getD (cellsOf g) (indexOf t) 0 ≡ g t
-cell-at g tag.Author = refl
-cell-at g tag.Name = refl
-cell-at g tag.Date = refl
-cell-at g tag.Songs = refl
-cell-at g tag.DefSong = refl
-cell-at g tag.Stereo = refl
-cell-at g tag.Ntsc = refl
-cell-at g tag.Type = refl
-cell-at g tag.FastPlay = refl
-cell-at g tag.Init = refl
-cell-at g tag.Music = refl
-cell-at g tag.Player = refl
-cell-at g tag.Covox = refl
-cell-at g tag.Time = refl
 
 -- the cells with another number in one of them
 abbrev changed : Tag → ℕ → (Tag → ℕ) → Tag → ℕ

@@ -1,3 +1,4 @@
 pub mod Text
 pub mod Stated
 pub mod Reading
+pub mod Laws

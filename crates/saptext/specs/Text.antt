@@ -1,6 +1,5 @@
 -- Source 002, 'Part One - Text Header', and document 02 (i): 'Lines end CR LF, the first is SAP alone, and the header
 -- ends where FF FF stands at a line's start.'
--- firstLine     the file begins with the line SAP
 -- Pieces, cut   bytes cut at each CR LF: the piece before the first one, and the pieces after it
 -- StoredLine    a line: where it begins in the file, and its bytes without the CR LF that closes it
 -- Text          the lines before the one that begins with FF FF, and where that one begins; or that there is none
@@ -11,11 +10,8 @@ use mathlib.Core.Bool.{Bool, true, false, cond, _&&_}
 use mathlib.Core.List.{List, [], _∷_}
 use lib.ListN.{length, drop}
 use lib.Dec.{eqb}
-use Rattle.characters.specs.Characters.{begins, stands}
+use Rattle.characters.specs.Characters.{begins}
 use Rattle.sapblocks.specs.Blocks.{marker}
-
-abbrev pub firstLine : List ℕ → Bool
-firstLine f = stands (0x53 ∷ 0x41 ∷ 0x50 ∷ 0x0D ∷ 0x0A ∷ []) f
 
 pub record Pieces : Type 0 where
   pub first : List ℕ

@@ -1,0 +1,4 @@
+pub mod FirstLine
+pub mod Answers
+pub mod Acceptance
+pub mod Laws
