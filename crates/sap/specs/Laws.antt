@@ -1,6 +1,7 @@
 -- Laws of reading a SAP file.
 -- sap-once, tested-once   no two answers have the same outcome
 -- headed, read-tested     the outcome of the tests, without the time and the block, is that of the call
+-- tested-given            what a file that passes the tests is answered with
 -- accepted-first-line     a file that is accepted begins with the line SAP
 use Prim.Native.Nat.{ℕ}
 use mathlib.Core.Path.{_≡_, refl, sym, ap, _∙_}
@@ -12,7 +13,7 @@ use Rattle.refusals.specs.Numbers.Outcome.{accepted, refused}
 use Rattle.refusals.specs.declared.Verdict.{Verdict}
 use Rattle.refusals.specs.declared.Verdict.the-variants.{Passed, Failed}
 use Rattle.refusals.specs.Tests.{firstOf, guarded}
-use Rattle.refusals.specs.Laws.{refused-once, two-ways}
+use Rattle.refusals.specs.Laws.{guarded-accepted, refused-once, two-ways}
 use Rattle.sapheader.specs.declared.Header.{Header}
 use Rattle.sap.specs.declared.Reading.{Reading}
 use Rattle.sap.specs.declared.Reading.the-variants.{Accepted, Refused}
@@ -61,3 +62,11 @@ read-tested f song n o e = ap headed e ∙ go (momentFor (timeOf song (linesIn (
 pub accepted-first-line : (f : List ℕ) (h : Header) → sapOutcome f ≡ accepted h → firstLine f ≡ true
 unfolding sapTests
 accepted-first-line f h e = not-false (firstLine f) (accepted-none f h e .0)
+
+-- Where a file passes the tests, the answer is its header, what TIME states for the song and the block.
+pub tested-given : (f : List ℕ) (song n : ℕ) (h : Header) (m : Moment) (b : Wanted) → accepted (passing h m b) ≡ testedOutcome f song n
+    → (accepted h ≡ sapOutcome f) × (m ≡ momentFor (timeOf song (linesIn (textIn f)))) × (b ≡ numbered (listed (blocksAfter f)) n)
+unfolding testedOutcome
+tested-given f song n h m b e =
+    let g = guarded-accepted (firstOf (sapTests f)) (passing h m b) (passing (headerIn f) (momentFor (timeOf song (linesIn (textIn f)))) (numbered (listed (blocksAfter f)) n)) (sym e) in
+    (read-tested f song n (accepted (passing h m b)) e, ap (λ (p : Passing). p .time) (sym (g .1)), ap (λ (p : Passing). p .block) (sym (g .1)))
