@@ -17,6 +17,6 @@ bounded-valued n most h k = omega arith
 
 pub card-answers : CardAnswers
 card-answers = record {
-  kind-valued = λ file. bounded-valued (fileKind file) 3 (kind-most file) (lit< tt);
+  kind-valued = λ file. bounded-valued (fileKind file) 4 (kind-most file) (lit< tt);
   reason-valued = λ number. bounded-valued (length (phraseAt number)) 80 (phrase-most number) (lit< tt);
 }

@@ -16,6 +16,7 @@ pub fn kind(file: &[u8]) -> u64
         FileKind::Psid => 1,
         FileKind::Rsid => 2,
         FileKind::Mus => 3,
+        FileKind::Sap => 4,
     }
 }
 

@@ -1,4 +1,4 @@
--- `card::kind_of` meets its contract: the file's first four bytes decide, and then the outcome of its head.
+-- `card::kind_of` meets its contract: the file's first five bytes decide, and then the outcome of its head.
 use mathlib.Core.Path.{sym, ap, _∙_}
 use borrow.Author.Needs.{needs}
 use borrow.Author.Tests.{eq-eqb, ne-eqb}
@@ -16,14 +16,37 @@ returns-2 c = rw (← c .before .before .be32 .ensures, ne-eqb _ _ (c .before .i
 returns-3 : tie.Need-returns-3
 returns-3 c =
     let tests = c .before .before .before in
-    rw (← tests .before .before .be32 .ensures, ne-eqb _ _ (tests .before .if1 .left), ne-eqb _ _ (tests .if2 .left))
-    (ap headKind (ap outcomeOfHead (sym (c .enum-told .given .1)) ∙ c .before .before .read-head .ensures))
+    rw (
+      ← tests .before .before .be32 .ensures,
+      ne-eqb _ _ (tests .before .if1 .left),
+      ne-eqb _ _ (tests .if2 .left),
+      ← c .before .before .begins .ensures,
+      c .before .if3 .taken,
+    ) (c .sap-kind .ensures)
 
 returns-4 : tie.Need-returns-4
 returns-4 c =
-    let tests = c .before .before .before in
-    rw (← tests .before .before .be32 .ensures, ne-eqb _ _ (tests .before .if1 .left), ne-eqb _ _ (tests .if2 .left))
-    (ap headKind (ap outcomeOfHead (sym (c .enum-told2 .given .1)) ∙ c .before .before .read-head .ensures))
+    let line = c .before .before .before in
+    let tests = line .before .before in
+    rw (
+      ← tests .before .before .be32 .ensures,
+      ne-eqb _ _ (tests .before .if1 .left),
+      ne-eqb _ _ (tests .if2 .left),
+      ← line .before .begins .ensures,
+      line .if3 .left,
+    ) (ap headKind (ap outcomeOfHead (sym (c .enum-told .given .1)) ∙ c .before .before .read-head .ensures))
+
+returns-5 : tie.Need-returns-5
+returns-5 c =
+    let line = c .before .before .before in
+    let tests = line .before .before in
+    rw (
+      ← tests .before .before .be32 .ensures,
+      ne-eqb _ _ (tests .before .if1 .left),
+      ne-eqb _ _ (tests .if2 .left),
+      ← line .before .begins .ensures,
+      line .if3 .left,
+    ) (ap headKind (ap outcomeOfHead (sym (c .enum-told2 .given .1)) ∙ c .before .before .read-head .ensures))
 
 pub kind-of-spec : {M : Type 1} → statement M
 kind-of-spec =
@@ -33,7 +56,10 @@ kind-of-spec =
     returns
     returns-2
     (λ c κs. search needs)
-    (λ c. search needs)
-    (λ c. search needs)
+    (λ c κs. search needs)
     returns-3
-    returns-4)
+    (λ c κs. search needs)
+    (λ c. search needs)
+    (λ c. search needs)
+    returns-4
+    returns-5)

@@ -17,6 +17,9 @@ returns-3 c = ap numberOfKind (sym (c .enum-told3 .given .1)) ∙ c .before .bef
 returns-4 : tie.Need-returns-4
 returns-4 c = ap numberOfKind (sym (c .enum-told4 .given .1)) ∙ c .before .before .kind-of .ensures
 
+returns-5 : tie.Need-returns-5
+returns-5 c = ap numberOfKind (sym (c .enum-told5 .given .1)) ∙ c .before .before .kind-of .ensures
+
 pub kind-spec : {M : Type 1} → statement M
 kind-spec =
     tie.close
@@ -26,7 +29,9 @@ kind-spec =
     (λ c. search needs)
     (λ c. search needs)
     (λ c. search needs)
+    (λ c. search needs)
     returns
     returns-2
     returns-3
-    returns-4)
+    returns-4
+    returns-5)
