@@ -8,6 +8,8 @@ use printing::write_after;
 use printing::write_hex;
 use printing::write_number;
 use refusals::Refusal;
+use sapheader::Player;
+use sapheader::TextPlace;
 use sid::Header;
 use sid::Kind;
 use std::num::wrapping_add_usize;
@@ -21,7 +23,7 @@ fn range(load: u16, payload: Span) {
     address(wrapping_sub_usize(wrapping_add_usize(first, payload.len), 1));
 }
 
-fn songs(n: u16) {
+fn songs(n: u32) {
     write_number(n as u64);
     if n == 1 {
         write(b" song");
@@ -50,9 +52,60 @@ pub fn tune(file: &[u8], h: Header) {
     write(b" by ");
     quote(fields::span_part(file, h.author));
     write(b", ");
-    songs(h.songs);
+    songs(h.songs as u32);
     write(b", loads to ");
     range(h.load, h.payload);
+    write(b"\n");
+}
+
+// The name of a SAP file, and by whom it is.
+fn named(file: &[u8], name: TextPlace, author: TextPlace) {
+    match name {
+        TextPlace::At(span) => quote(fields::span_part(file, span)),
+        TextPlace::Absent => {
+            write(b"no name");
+        }
+    }
+    match author {
+        TextPlace::At(span) => {
+            write(b" by ");
+            quote(fields::span_part(file, span));
+        }
+        TextPlace::Absent => {
+            write(b", no author");
+        }
+    }
+}
+
+// The letter of a SAP file's type.
+fn letter(player: Player) {
+    match player {
+        Player::B(_) => {
+            write(b"B");
+        }
+        Player::C(_) => {
+            write(b"C");
+        }
+        Player::D(_) => {
+            write(b"D");
+        }
+        Player::S(_) => {
+            write(b"S");
+        }
+    }
+}
+
+// A SAP file that is accepted.
+pub fn sap(file: &[u8], h: sapheader::Header) {
+    let name = h.name;
+    let author = h.author;
+    let player = h.player;
+    write(b": SAP accepted: ");
+    named(file, name, author);
+    write(b", type ");
+    letter(player);
+    write(b", ");
+    songs(h.songs);
     write(b"\n");
 }
 
@@ -133,7 +186,7 @@ pub fn error(n: i32) {
 
 pub fn usage() {
     write(
-        b"cardcheck reads the music files for a card, PSID, RSID and Sidplayer MUS, before the card is pressed.\n",
+        b"cardcheck reads the music files for a card, PSID, RSID, SAP and Sidplayer MUS, before it is pressed.\n",
     );
     write(b"use: cardcheck FILE..\n");
     write(

@@ -21,12 +21,17 @@ enum Checked {
 // Longer than any path that can be opened.
 const NAME: usize = 8192;
 
-// Longer than any accepted file, so that what is cut off changes no answer: the law `judged-cut` of
-// crates/card/specs/CutOff.antt.
-const FILE: usize = 66000;
+// One byte more than the longest SAP file that is looked at. What is cut off of any other file changes no
+// answer: the law `judged-held` of crates/card/specs/CutOff.antt.
+const FILE: usize = 131073;
 
 fn accept_tune(file: &[u8], h: Header) -> Checked {
     lines::tune(file, h);
+    Checked::Accepted
+}
+
+fn accept_sap(file: &[u8], h: sapheader::Header) -> Checked {
+    lines::sap(file, h);
     Checked::Accepted
 }
 
@@ -38,6 +43,13 @@ fn accept_song(file: &[u8], song: Song) -> Checked {
 fn refuse_tune(kind: Kind, x: Refusal) -> Checked {
     lines::kind(kind);
     write(b"refused ");
+    lines::refusal(x);
+    write(b"\n");
+    Checked::Refused
+}
+
+fn refuse_sap(x: Refusal) -> Checked {
+    write(b": SAP refused ");
     lines::refusal(x);
     write(b"\n");
     Checked::Refused
@@ -56,7 +68,7 @@ fn refuse_other(file: &[u8], x: Refusal) -> Checked {
     } else {
         write(b":");
     }
-    write(b" neither PSID, RSID nor MUS (as MUS refused ");
+    write(b" neither PSID, RSID, SAP nor MUS (as MUS refused ");
     lines::refusal(x);
     write(b")\n");
     Checked::Refused
@@ -67,6 +79,8 @@ fn check_file(name: &[u8], file: &[u8]) -> Checked {
     match card::judge(file) {
         Judged::Tune(h) => accept_tune(file, h),
         Judged::RefusedTune(kind, x) => refuse_tune(kind, x),
+        Judged::Sap(h) => accept_sap(file, h),
+        Judged::RefusedSap(x) => refuse_sap(x),
         Judged::Song(song) => accept_song(file, song),
         Judged::RefusedSong(x) => refuse_song(file, x),
         Judged::Neither(x) => refuse_other(file, x),
@@ -81,12 +95,28 @@ fn cannot(name: &[u8], what: &[u8], error: i32) -> Checked {
     Checked::Unreadable
 }
 
+// A SAP file of which only a part is there: no answer of a part is given for the whole.
+fn not_looked_at(name: &[u8]) -> Checked {
+    text::show_name(name);
+    write(b": SAP not looked at: over 131,072 bytes, more than cardcheck holds\n");
+    Checked::Unreadable
+}
+
+// What was read of a file.
+fn check_read(name: &[u8], file: &[u8]) -> Checked {
+    if card::is_cut_sap(file, FILE) {
+        not_looked_at(name)
+    } else {
+        check_file(name, file)
+    }
+}
+
 fn check_named(name: &[u8]) -> Checked {
     let mut file = [0u8; FILE];
     match files::read_file(name, &mut file) {
         Loaded::NotOpened(error) => cannot(name, b": cannot be opened: ", error),
         Loaded::NotRead(error) => cannot(name, b": cannot be read: ", error),
-        Loaded::Bytes(len) => check_file(name, fields::part(&file, 0, len)),
+        Loaded::Bytes(len) => check_read(name, fields::part(&file, 0, len)),
     }
 }
 

@@ -9,7 +9,7 @@
 -- numberFrom, numberOf   the number that digits of a base mean
 -- most, digitsOf    how many digits stand at the front of bytes, and their number, or `most` where it is greater
 use Prim.Native.Nat.{ℕ, _+_, _-_, _*_, min}
-use mathlib.Core.Bool.{Bool, true, false, cond, not, _&&_, _||_}
+use mathlib.Core.Bool.{Bool, true, cond, not, _&&_, _||_}
 use mathlib.Core.List.{List, [], _∷_}
 use lib.ListN.{length, getD, drop}
 use lib.Dec.{ltb, leb, eqb}

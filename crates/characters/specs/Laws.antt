@@ -1,5 +1,6 @@
 -- What stands at the front of a line is the same whether the line is looked at by itself or in its file, where a
 -- byte that closes it and other bytes follow. `a` is the line, `c` the byte that closes it, `t` what follows.
+-- byte-here, byte-later          a byte by its place
 -- leading-length                 the leading bytes are at most as many as the bytes
 -- leading-stop, rest-stop        where c does not pass the test
 -- begins-stop                    where c is not the byte that is looked for
@@ -10,17 +11,25 @@
 -- digits-below                   the number of so many digits is below the power of the base
 use Prim.Native.Nat.{ℕ, suc, _+_, _*_, _^_, _≤_, _<_}
 use mathlib.Core.Path.{_≡_, refl, ap, sym, _∙_}
-use mathlib.Core.Bool.{Bool, true, false, false≢true, _&&_}
+use mathlib.Core.Bool.{Bool, true, false, false≢true}
 use mathlib.Core.List.{List, [], _∷_, _++_}
 use native.Mathlib.Omega.{arith}
 use native.Mathlib.Nat.{add-mul, one-mul, mul-assoc, mul-le-mul-right, pow-zero, pow-succ'}
 use lib.ListN.{length, drop, getD}
-use lib.Seq.{drop-append-le}
+use lib.Seq.{drop-append-le, drop-drop, getD-drop}
 use lib.Dec.{eqb}
 use borrow.Author.Tests.{ltb-true}
 use Rattle.logic.specs.Cases.{cases}
 use Rattle.logic.specs.Truth.{both-right}
 use Rattle.characters.specs.Characters.{digitValue, isDigit, leading, rest, begins, stands, numberFrom, digitsOf}
+
+-- The first byte from a place on is the byte at that place.
+pub byte-here : (f : List ℕ) (at : ℕ) → getD (drop at f) 0 0 ≡ getD f at 0
+byte-here f at = getD-drop at f 0 0 ∙ ap (λ (k : ℕ). getD f k 0) (omega arith)
+
+-- So it is from a place that is found from another on.
+pub byte-later : (f : List ℕ) (at n : ℕ) → getD (drop n (drop at f)) 0 0 ≡ getD f (at + n) 0
+byte-later f at n = rw (drop-drop n at f) (byte-here f (at + n))
 
 -- The leading bytes are at most as many as the bytes.
 pub leading-length : (p : ℕ → Bool) (s : List ℕ) → length (leading p s) ≤ length s

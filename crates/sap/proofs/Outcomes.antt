@@ -5,10 +5,10 @@
 -- tags-failed, blocks-failed   53, 54
 -- all-passed       none
 use Prim.Native.Nat.{ℕ, _≤_}
-use mathlib.Core.Path.{_≡_, refl, sym, ap, subst, _∙_}
-use mathlib.Core.Bool.{Bool, true, false, not}
+use mathlib.Core.Path.{_≡_, ap, _∙_}
+use mathlib.Core.Bool.{true, false}
 use mathlib.Core.List.{List}
-use lib.ListN.{length, getD}
+use lib.ListN.{getD}
 use Rattle.refusals.specs.Numbers.Outcome.{accepted, refused}
 use Rattle.saptags.specs.declared.Tag.{Tag}
 use Rattle.saptags.specs.declared.Tag.the-variants as tag
@@ -21,7 +21,7 @@ use Rattle.sapblocks.specs.Answers.{walkedIn}
 use Rattle.sapblocks.specs.Laws.{walked-spoilt, walked-counted}
 use Rattle.saptext.specs.declared.Lines.{Lines}
 use Rattle.saptext.specs.Text.{textIn}
-use Rattle.saptext.specs.Stated.{Stated, countOf, stated}
+use Rattle.saptext.specs.Stated.{Stated, countOf}
 use Rattle.saptext.specs.Reading.{placeOf, valueOf, stateOf, whichOf, counts, textRead, linesOf}
 use Rattle.saptext.specs.Laws.{cell-at, nth-restated, nth-most, Known, read-spoilt}
 use Rattle.saprules.specs.Against.{statesOf, against}
@@ -29,7 +29,7 @@ use Rattle.sapheader.specs.declared.Header.{Header}
 use Rattle.sapheader.specs.Header.{headerFor}
 use Rattle.sap.specs.declared.Moment.{Moment}
 use Rattle.sap.specs.FirstLine.{firstLine}
-use Rattle.sap.specs.Answers.{linesIn, states, sapTests, headerIn, momentFor, passing, testedOutcome}
+use Rattle.sap.specs.Answers.{states, sapTests, headerIn, momentFor, passing, testedOutcome}
 
 module _ (f : List ℕ) (song n : ℕ) where
   pub line-failed : firstLine f ≡ false → refused 51 0 ≡ testedOutcome f song n

@@ -5,7 +5,7 @@
 -- accepted-first-line     a file that is accepted begins with the line SAP
 use Prim.Native.Nat.{ℕ}
 use mathlib.Core.Path.{_≡_, refl, sym, ap, _∙_}
-use mathlib.Core.Bool.{Bool, true, false, not}
+use mathlib.Core.Bool.{true}
 use mathlib.Core.List.{List}
 use borrow.Author.Tests.{not-false}
 use Rattle.refusals.specs.Numbers.{Outcome}

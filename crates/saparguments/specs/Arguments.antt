@@ -8,7 +8,7 @@
 -- textAt       'wrapped in doublequotes', 'at most 120 allowed characters without inner quotes': the value is how many
 use Prim.Native.Nat.{ℕ, _+_}
 use mathlib.Core.Bool.{Bool, cond, not, _&&_, _||_}
-use mathlib.Core.List.{List, [], _∷_}
+use mathlib.Core.List.{List}
 use lib.ListN.{length, getD, drop}
 use lib.Dec.{ltb, leb, eqb}
 use Rattle.characters.specs.declared.Digits.{Digits}

@@ -1,10 +1,8 @@
 // The arguments of a SAP header's tags, each at a place of lent bytes. Each byte is looked at once.
 ghost use mathlib.Core.Path.{_≡_};
-ghost use Prim.Native.Nat.{_+_, _<_, _≤_, _^_};
-ghost use lib.ListN.{length, drop};
+ghost use Prim.Native.Nat.{_+_, _<_, _^_};
+ghost use lib.ListN.{drop};
 ghost use Rattle.saparguments.specs.Arguments.{decimalAt, addressAt, covoxAt, letterAt, textAt};
-
-pub mod times;
 
 // What stands at a place as an argument: nothing that fits, or its length in bytes and its value.
 pub enum Argument {

@@ -12,7 +12,6 @@ use Rattle.saprules.specs.Laws.{stated-place}
 use Rattle.sapheader.specs.declared.Player.{Player}
 use Rattle.sapheader.specs.declared.TextPlace.{TextPlace}
 use Rattle.sapheader.specs.declared.Rate.{Rate}
-use Rattle.sapheader.specs.declared.Header.{Header}
 use Rattle.sapheader.specs.Header.{textFor, rateFor, holds, playerFor, headerFor}
 
 module _ (places values : List ℕ) (times blocks first : ℕ) where

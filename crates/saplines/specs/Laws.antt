@@ -4,15 +4,15 @@
 -- value-within, argument-within, line-within  what fits lies within the bytes
 -- mostOf, value-most, line-most               how great the value of a tag's argument can be
 use Prim.Native.Nat.{ℕ, _+_, _≤_}
-use mathlib.Core.Path.{_≡_, refl, sym, ap, _∙_}
-use mathlib.Core.Bool.{true, false}
+use mathlib.Core.Path.{_≡_, refl, ap}
+use mathlib.Core.Bool.{true}
 use mathlib.Core.List.{List, [], _∷_, _++_}
 use native.Mathlib.Omega.{arith}
 use lib.ListN.{length, drop, length-drop}
 use lib.Dec.{lit≤}
 use Rattle.logic.specs.Cases.{cases}
 use Rattle.characters.specs.Characters.{begins, most}
-use Rattle.characters.specs.Laws.{begins-stop, drop-stop}
+use Rattle.characters.specs.Laws.{drop-stop}
 use Rattle.saptags.specs.declared.Tag.{Tag}
 use Rattle.saptags.specs.declared.Tag.the-variants as tag
 use Rattle.saptags.specs.declared.Named.{Named}
@@ -21,8 +21,8 @@ use Rattle.saptags.specs.Tags.{nameOf, tagAt}
 use Rattle.saptags.specs.Laws.{tag-stop, tag-stands, name-long}
 use Rattle.saparguments.specs.declared.Argument.{Argument}
 use Rattle.saparguments.specs.declared.Argument.the-variants.{Bad, Good}
-use Rattle.saparguments.specs.Laws.{Stops, Within, decimal-stop, decimal-within, address-stop, address-within, covox-stop, covox-within, letter-stop, letter-within, text-stop, text-within, time-stop, time-within, AtMost, decimal-most, address-most, covox-most, letter-most, text-most, time-most}
-use Rattle.saplines.specs.declared.Line.{Line}
+use Rattle.saparguments.specs.Laws.{Stops, Within, decimal-stop, decimal-within, address-stop, address-within, covox-stop, covox-within, letter-stop, letter-within, text-stop, text-within, AtMost, decimal-most, address-most, covox-most, letter-most, text-most}
+use Rattle.saptimes.specs.Laws.{time-stop, time-within, time-most}
 use Rattle.saplines.specs.declared.Line.the-variants as line
 use Rattle.saplines.specs.Lines.{valueAt, alone, spaced, argumentAfter, withArgument, withTag, lineAt}
 

@@ -18,7 +18,7 @@ use Rattle.saptags.specs.Tags.{nameOf, indexOf, tagAt}
 use Rattle.saparguments.specs.declared.Argument.{Argument}
 use Rattle.saparguments.specs.declared.Argument.the-variants.{Bad, Good}
 use Rattle.saparguments.specs.Arguments.{decimalAt, addressAt, covoxAt, letterAt, textAt}
-use Rattle.saparguments.specs.Times.{timeAt}
+use Rattle.saptimes.specs.Times.{timeAt}
 use Rattle.saplines.specs.declared.Line.{Line}
 use Rattle.saplines.specs.declared.Line.the-variants as line
 

@@ -36,7 +36,7 @@ fn value_at(file: &[u8], tag: Tag, at: usize) -> Argument
         Tag::Music => saparguments::address_at(file, at),
         Tag::Player => saparguments::address_at(file, at),
         Tag::Covox => saparguments::covox_at(file, at),
-        Tag::Time => saparguments::times::time_at(file, at),
+        Tag::Time => saptimes::time_at(file, at),
     }
 }
 

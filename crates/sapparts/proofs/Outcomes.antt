@@ -2,15 +2,14 @@
 -- time-refused, song-missing, time-given    the time of a song
 -- block-refused, block-given                a block
 use Prim.Native.Nat.{ℕ, _≤_, _<_}
-use mathlib.Core.Path.{_≡_, refl, sym, ap, _∙_}
+use mathlib.Core.Path.{_≡_}
 use mathlib.Core.List.{List}
 use borrow.Author.Tests.{le-leb, lt-leb}
-use Rattle.refusals.specs.Numbers.{Outcome}
 use Rattle.refusals.specs.Numbers.Outcome.{accepted, refused}
 use Rattle.sapblocks.specs.declared.Wanted.{Wanted}
 use Rattle.sapheader.specs.declared.Header.{Header}
 use Rattle.sap.specs.declared.Moment.{Moment}
-use Rattle.sap.specs.Answers.{sapOutcome, passing, testedOutcome}
+use Rattle.sap.specs.Answers.{passing, testedOutcome}
 use Rattle.sap.specs.Laws.{read-tested, tested-given}
 use Rattle.sapparts.specs.Asked.{lasting, timeOutcome, blockOutcome}
 

@@ -4,11 +4,10 @@
 -- song-there, song-past   of an accepted file a song has a time, stated or not, exactly where its number is below SONGS
 -- block-there             of an accepted file, the block of a number is the one of that number in the file's order
 use Prim.Native.Nat.{ℕ, _≤_, _<_}
-use mathlib.Core.Path.{_≡_, refl, sym, ap, _∙_}
+use mathlib.Core.Path.{_≡_, refl, sym, ap}
 use mathlib.Core.List.{List}
 use native.Mathlib.Omega.{arith}
 use borrow.Author.Tests.{le-leb, lt-leb}
-use Rattle.refusals.specs.Numbers.{Outcome}
 use Rattle.refusals.specs.Numbers.Outcome.{accepted, refused}
 use Rattle.refusals.specs.Laws.{refused-once, two-ways}
 use Rattle.sapblocks.specs.Blocks.{listed}
@@ -21,7 +20,6 @@ use Rattle.sapparts.specs.declared.SongTime.{SongTime}
 use Rattle.sapparts.specs.declared.SongTime.the-variants as time
 use Rattle.sapparts.specs.declared.BlockAnswer.{BlockAnswer}
 use Rattle.sapparts.specs.declared.BlockAnswer.the-variants as block
-use Rattle.sapparts.specs.declared.Duration.{Duration}
 use Rattle.sapparts.specs.Asked.{lasting, timeOutcome, outcomeOfTime, blockOutcome, outcomeOfBlock}
 
 -- No two answers to a song's number have the same outcome.

@@ -8,7 +8,7 @@
 -- songsAgainst              'DEFSONG counts from zero and is below SONGS', 'TIME at most SONGS times'
 -- against                   either
 use Prim.Native.Nat.{ℕ}
-use mathlib.Core.Bool.{Bool, true, false, cond, not, _&&_, _||_}
+use mathlib.Core.Bool.{Bool, true, false, not, _&&_, _||_}
 use mathlib.Core.List.{List}
 use lib.ListN.{getD}
 use lib.Dec.{ltb, leb, eqb}

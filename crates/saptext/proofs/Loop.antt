@@ -6,11 +6,10 @@
 -- end-marked, end-bad, end-twice, end-past   what is answered, by where the loop ends
 use Prim.Native.Nat.{ℕ, _+_, _≤_, _<_}
 use mathlib.Core.Path.{_≡_, refl, sym, ap, _∙_}
-use mathlib.Core.Bool.{Bool, true, false, cond}
+use mathlib.Core.Bool.{true, false}
 use mathlib.Core.List.{List, [], _∷_}
 use native.Mathlib.Omega.{arith}
 use lib.ListN.{length, drop, getD, set, length-set, length-drop}
-use lib.Dec.{eqb}
 use borrow.Author.Tests.{eq-eqb, ne-eqb}
 use Rattle.logic.specs.Cases.{cases}
 use Rattle.characters.specs.Characters.{stands}
@@ -26,8 +25,7 @@ use Rattle.saptext.specs.declared.Lines.{Lines}
 use Rattle.saptext.specs.Text.{Text, textOn, textIn}
 use Rattle.saptext.specs.Text.Text.{unended, ended}
 use Rattle.saptext.specs.Stated.{nthOf}
-use Rattle.saptext.specs.Reading.{lineEnd, closedAt, entryAt, TextRead, textRead, linesOf}
-use Rattle.saptext.specs.Reading.TextRead.{spoilt}
+use Rattle.saptext.specs.Reading.{lineEnd, closedAt, entryAt, textRead, linesOf}
 use Rattle.saptext.proofs.Running.{Cells, Step, stepTo, run, run-bad}
 use Rattle.saptext.proofs.Running.Step.{kept}
 use Rattle.saptext.proofs.Standing.{text-marked, text-past, text-good, text-bad}

@@ -7,7 +7,7 @@
 -- named          the law
 use Prim.Native.Nat.{ℕ, zero, suc, _+_, _≤_, _<_}
 use mathlib.Core.Path.{_≡_, refl, sym, ap, subst, _∙_}
-use mathlib.Core.Bool.{Bool, true, false, false≢true, cond, _&&_, _||_}
+use mathlib.Core.Bool.{Bool, true, false, false≢true, cond, _&&_}
 use mathlib.Core.List.{List, [], _∷_, _++_, append-assoc, append-nil}
 use native.Mathlib.Omega.{arith}
 use lib.ListN.{length, getD, set}
@@ -22,13 +22,13 @@ use Rattle.saplines.specs.declared.Line.{Line}
 use Rattle.saplines.specs.declared.Line.the-variants.{Bad, Good}
 use Rattle.saptext.specs.Text.{StoredLine}
 use Rattle.saptext.specs.Text.Text.{ended}
-use Rattle.saptext.specs.Stated.{entryOf, isBad, isOf, tagged, oneMore, countOf, anyBad, onceTags, anyTwice, again, badLines, Stated, statedBy, nthOf}
-use Rattle.saptext.specs.Stated.Stated.{absent, given}
-use Rattle.saptext.specs.Reading.{placeOf, valueOf, whichOf, cellsOf, counts, TextRead, textRead}
-use Rattle.saptext.specs.Reading.TextRead.{spoilt, read}
+use Rattle.saptext.specs.Stated.{entryOf, isBad, isOf, tagged, oneMore, countOf, anyBad, onceTags, anyTwice, again, Stated, statedBy, nthOf}
+use Rattle.saptext.specs.Stated.Stated.{given}
+use Rattle.saptext.specs.Reading.{placeOf, valueOf, whichOf, cellsOf, counts, textRead}
+use Rattle.saptext.specs.Reading.TextRead.{spoilt}
 use Rattle.saptext.specs.Laws.{cell-at}
-use Rattle.saptext.proofs.Running.{Cells, Step, noted, timed, stepWith, runLines, lines-bad}
-use Rattle.saptext.proofs.Running.Step.{bad, kept}
+use Rattle.saptext.proofs.Running.{Cells, noted, timed, stepWith, runLines, lines-bad}
+use Rattle.saptext.proofs.Running.Step.{kept}
 
 pub count-append : (t : Tag) (ls ks : List StoredLine) → countOf t (ls ++ ks) ≡ countOf t ls + countOf t ks
 count-append t [] ks = omega arith

@@ -5,9 +5,9 @@
 -- text-bad       anything else: nothing is read
 -- entry-none, entry-open, entry-read, line-inside   a line read step by step
 use Prim.Native.Nat.{ℕ, _+_, _≤_, _<_}
-use mathlib.Core.Path.{_≡_, refl, sym, ap, subst, _∙_}
-use mathlib.Core.Bool.{Bool, true, false, false≢true, cond}
-use mathlib.Core.List.{List, [], _∷_, _++_}
+use mathlib.Core.Path.{_≡_, refl, sym, ap, _∙_}
+use mathlib.Core.Bool.{true, false}
+use mathlib.Core.List.{List, [], _∷_}
 use mathlib.Core.Logic.{_⊎_, inl, inr}
 use native.Mathlib.Omega.{arith}
 use lib.ListN.{length, drop, length-drop, drop-of-length-le}
@@ -23,16 +23,15 @@ use Rattle.saplines.specs.declared.Line.{Line}
 use Rattle.saplines.specs.declared.Line.the-variants as line
 use Rattle.saplines.specs.Lines.{lineAt}
 use Rattle.saplines.specs.Laws.{line-stop, line-within}
-use Rattle.saptext.specs.declared.Entry.{Entry}
 use Rattle.saptext.specs.declared.Entry.the-variants.{Bad, Good}
-use Rattle.saptext.specs.Text.{cut, Text, withLine, textFrom, textOn}
+use Rattle.saptext.specs.Text.{cut, withLine, textFrom, textOn}
 use Rattle.saptext.specs.Text.Text.{unended, ended}
 use Rattle.saptext.specs.Stated.{whole, entryOf}
-use Rattle.saptext.specs.Reading.{lineEnd, closedAt, entryAt, TextRead}
-use Rattle.saptext.specs.Reading.TextRead.{spoilt, read}
+use Rattle.saptext.specs.Reading.{lineEnd, closedAt, entryAt}
+use Rattle.saptext.specs.Reading.TextRead.{spoilt}
 use Rattle.saptext.proofs.Cutting.{Closed, pieces-of, first-cut, marker-first}
-use Rattle.saptext.proofs.Running.{Cells, Step, stepTo, run, run-line, run-bad}
-use Rattle.saptext.proofs.Running.Step.{bad, kept}
+use Rattle.saptext.proofs.Running.{Cells, stepTo, run, run-line, run-bad}
+use Rattle.saptext.proofs.Running.Step.{kept}
 
 module _ (f : List ℕ) (at : ℕ) where
   piece : List ℕ

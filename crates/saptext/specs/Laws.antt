@@ -6,8 +6,8 @@
 -- read-known     so where reading answers cells
 -- read-spoilt    where it answers none, the lines are bad
 use Prim.Native.Nat.{ℕ, zero, suc, _+_, _≤_}
-use mathlib.Core.Path.{_≡_, refl, sym, ap, subst, _∙_}
-use mathlib.Core.Bool.{Bool, true, false, false≢true, cond}
+use mathlib.Core.Path.{_≡_, refl, sym, ap}
+use mathlib.Core.Bool.{true, false, false≢true}
 use mathlib.Core.List.{List, [], _∷_}
 use native.Mathlib.Omega.{arith}
 use lib.ListN.{length, getD}
@@ -25,10 +25,8 @@ use Rattle.saplines.specs.Laws.{mostOf, line-most}
 use Rattle.saptext.specs.declared.Lines.{Lines}
 use Rattle.saptext.specs.Text.{StoredLine, Text}
 use Rattle.saptext.specs.Text.Text.{unended, ended}
-use Rattle.saptext.specs.Stated.{whole, entryOf, isOf, tagged, countOf, badLines, Stated, statedBy, chosen, nthOf}
-use Rattle.saptext.specs.Stated.Stated.{absent, given}
-use Rattle.saptext.specs.Reading.{placeOf, valueOf, cellsOf, counts, stateOf, badText, TextRead, textRead, linesOf}
-use Rattle.saptext.specs.Reading.TextRead.{spoilt, read}
+use Rattle.saptext.specs.Stated.{whole, entryOf, isOf, tagged, countOf, badLines, statedBy, nthOf}
+use Rattle.saptext.specs.Reading.{placeOf, valueOf, cellsOf, counts, stateOf, badText, textRead, linesOf}
 
 -- The cell at a tag's number is the tag's.
 pub cell-at : (g : Tag → ℕ) (t : Tag) → getD (cellsOf g) (indexOf t) 0 ≡ g t

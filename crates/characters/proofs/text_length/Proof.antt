@@ -1,10 +1,9 @@
 -- `text_length` meets its contract. The invariant: what is counted and what is still to be counted make the
 -- whole. Assumes nothing.
-use Prim.Native.Nat.{_≤_, _-_}
-use mathlib.Core.Path.{_≡_, refl, sym, ap, _∙_}
+use Prim.Native.Nat.{_-_}
+use mathlib.Core.Path.{sym, ap}
 use native.Mathlib.Omega.{arith}
 use lib.ListN.{length}
-use borrow.Author.Needs.{needs}
 use borrow.Author.Tests.{not-true, not-false}
 use Rattle.characters.specs.Characters.{isTextCharacter}
 use Rattle.characters.proofs.Counting.{Counted, none-past, counted-closed, counted-more, counted-all}

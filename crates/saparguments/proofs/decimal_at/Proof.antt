@@ -1,6 +1,6 @@
 -- `decimal_at` meets its contract: the digits and the first byte are those of the place. Assumes nothing.
 use denote.Ref.{now}
-use Rattle.saparguments.proofs.Places.{byte-here}
+use Rattle.characters.specs.Laws.{byte-here}
 use borrow.Author.Needs.{needs}
 use Rattle.saparguments.proofs.decimal_at.Statement.{statement}
 use Rattle.saparguments.proofs.decimal_at.Tie as tie

@@ -1,6 +1,6 @@
 -- `letter_at` meets its contract: the byte is that of the place. Assumes nothing.
 use denote.Ref.{now}
-use Rattle.saparguments.proofs.Places.{byte-here}
+use Rattle.characters.specs.Laws.{byte-here}
 use borrow.Author.Needs.{needs}
 use Rattle.saparguments.proofs.letter_at.Statement.{statement}
 use Rattle.saparguments.proofs.letter_at.Tie as tie

@@ -4,7 +4,6 @@ use Prim.Native.Nat.{_-_}
 use mathlib.Core.Path.{sym, _∙_}
 use native.Mathlib.Omega.{arith}
 use lib.ListN.{length}
-use denote.Ref.{now}
 use borrow.Author.Needs.{needs}
 use Rattle.saptext.proofs.Loop.{Ongoing, start, entry-facts, go-time, go-other, go-tag, end-marked, end-bad, end-twice, end-past}
 use Rattle.saptext.proofs.read_lines.Statement.{statement}

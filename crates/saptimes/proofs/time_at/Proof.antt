@@ -2,10 +2,10 @@
 use mathlib.Core.Path.{sym, _∙_}
 use native.Mathlib.Omega.{arith}
 use denote.Ref.{now}
-use Rattle.saparguments.proofs.Durations.{clock-fits, fraction-fits, time-none, fraction-none, time-read}
+use Rattle.saptimes.proofs.Durations.{clock-fits, fraction-fits, time-none, fraction-none, time-read}
 use borrow.Author.Needs.{needs}
-use Rattle.saparguments.proofs.times.time_at.Statement.{statement}
-use Rattle.saparguments.proofs.times.time_at.Tie as tie
+use Rattle.saptimes.proofs.time_at.Statement.{statement}
+use Rattle.saptimes.proofs.time_at.Tie as tie
 
 clock-at-requires : tie.Need-clock-at-requires
 clock-at-requires c κs = search needs

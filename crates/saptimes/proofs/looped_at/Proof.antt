@@ -1,8 +1,8 @@
 -- `looped_at` meets its contract: by whether the word stands there. Assumes nothing.
 use mathlib.Core.Path.{sym, _∙_}
 use borrow.Author.Needs.{needs}
-use Rattle.saparguments.proofs.times.looped_at.Statement.{statement}
-use Rattle.saparguments.proofs.times.looped_at.Tie as tie
+use Rattle.saptimes.proofs.looped_at.Statement.{statement}
+use Rattle.saptimes.proofs.looped_at.Tie as tie
 
 slice-aggregate-stands-at : tie.Need-slice-aggregate-stands-at
 slice-aggregate-stands-at c = search needs

@@ -1,7 +1,7 @@
 -- `unit_of` meets its contract: by the number of digits. Assumes nothing.
 use borrow.Author.Tests.{eq-eqb, ne-eqb}
-use Rattle.saparguments.proofs.times.unit_of.Statement.{statement}
-use Rattle.saparguments.proofs.times.unit_of.Tie as tie
+use Rattle.saptimes.proofs.unit_of.Statement.{statement}
+use Rattle.saptimes.proofs.unit_of.Tie as tie
 
 returns : tie.Need-returns
 returns c = rw (eq-eqb _ _ (c .if1 .taken))

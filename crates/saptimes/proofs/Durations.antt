@@ -3,15 +3,15 @@
 -- clock-fits, fraction-fits   where they end, and how great they are
 -- time-none, fraction-none, time-read   the outcome of each way
 use Prim.Native.Nat.{ℕ, _+_, _*_, _^_, _<_, _≤_}
-use mathlib.Core.Path.{_≡_, sym, _∙_}
+use mathlib.Core.Path.{_≡_}
 use mathlib.Core.List.{List}
 use native.Mathlib.Omega.{arith}
 use lib.ListN.{length, drop, length-drop}
 use lib.Seq.{drop-drop}
 use Rattle.saparguments.specs.declared.Argument.{Argument}
 use Rattle.saparguments.specs.declared.Argument.the-variants.{Bad, Good}
-use Rattle.saparguments.specs.Times.{clockAt, fractionAt, loopedAt, timeAt}
-use Rattle.saparguments.specs.Laws.{clock-within, clock-small, fraction-within, fraction-small}
+use Rattle.saptimes.specs.Times.{clockAt, fractionAt, loopedAt, timeAt}
+use Rattle.saptimes.specs.Laws.{clock-within, clock-small, fraction-within, fraction-small}
 
 module _ (f : List ℕ) (at : ℕ) where
   pub time-none : clockAt (drop at f) ≡ Bad → Bad ≡ timeAt (drop at f)

@@ -1,9 +1,9 @@
-// A song's duration.
+// A song's duration at a place of lent bytes: the argument of TIME. Each byte is looked at once.
 ghost use mathlib.Core.Path.{_≡_};
-ghost use Prim.Native.Nat.{_+_, _<_, _≤_, _^_};
-ghost use lib.ListN.{length, drop};
-ghost use Rattle.saparguments.specs.Times.{thousandths, fractionAt, loopedAt, clockAt, timeAt};
-use crate::Argument;
+ghost use Prim.Native.Nat.{_+_, _<_, _^_};
+ghost use lib.ListN.{drop};
+ghost use Rattle.saptimes.specs.Times.{thousandths, fractionAt, loopedAt, clockAt, timeAt};
+use saparguments::Argument;
 
 // What one unit of a fraction's last digit is, in milliseconds.
 fn unit_of(digits: usize) -> u32

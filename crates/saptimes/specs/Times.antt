@@ -8,14 +8,14 @@
 -- loopWord, loopedAt   'optionally: one space followed by four uppercase letters "LOOP"'
 -- timeAt        these three: the value is 2 × milliseconds, plus 1 where LOOP follows
 use Prim.Native.Nat.{ℕ, _+_, _*_}
-use mathlib.Core.Bool.{Bool, true, false, cond, _&&_, _||_}
+use mathlib.Core.Bool.{Bool, cond, _&&_, _||_}
 use mathlib.Core.List.{List, [], _∷_}
 use lib.ListN.{drop}
 use lib.Dec.{leb, eqb}
 use Rattle.characters.specs.declared.Digits.{Digits}
 use Rattle.characters.specs.Characters.{begins, stands, digitsOf}
 use Rattle.saparguments.specs.declared.Argument.{Argument}
 use Rattle.saparguments.specs.declared.Argument.the-variants.{Bad, Good}
 
 -- the digits of the seconds, after those of the minutes and one byte
 abbrev pub secondsIn : Digits → List ℕ → Digits

@@ -5,10 +5,11 @@ use native.Mathlib.Omega.{arith}
 use lib.Seq.{drop-drop}
 use denote.Ref.{now}
 use borrow.Author.Tests.{eq-eqb, ne-eqb}
-use Rattle.saparguments.proofs.Places.{byte-here, digits-inside, product-fits}
+use Rattle.characters.specs.Laws.{byte-here}
+use Rattle.saptimes.proofs.Places.{digits-inside, product-fits}
 use borrow.Author.Needs.{needs}
-use Rattle.saparguments.proofs.times.fraction_at.Statement.{statement}
-use Rattle.saparguments.proofs.times.fraction_at.Tie as tie
+use Rattle.saptimes.proofs.fraction_at.Statement.{statement}
+use Rattle.saptimes.proofs.fraction_at.Tie as tie
 
 byte-at-requires : tie.Need-byte-at-requires
 byte-at-requires c κs = search needs

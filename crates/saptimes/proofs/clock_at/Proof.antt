@@ -2,10 +2,10 @@
 use Prim.Native.Nat.{_+_}
 use native.Mathlib.Omega.{arith}
 use denote.Ref.{now}
-use Rattle.saparguments.proofs.Places.{digits-inside, digits-small, clock-read}
+use Rattle.saptimes.proofs.Places.{digits-inside, digits-small, clock-read}
 use borrow.Author.Needs.{needs}
-use Rattle.saparguments.proofs.times.clock_at.Statement.{statement}
-use Rattle.saparguments.proofs.times.clock_at.Tie as tie
+use Rattle.saptimes.proofs.clock_at.Statement.{statement}
+use Rattle.saptimes.proofs.clock_at.Tie as tie
 
 digits-at-requires : tie.Need-digits-at-requires
 digits-at-requires c κs = search needs

@@ -1,0 +1,4 @@
+pub mod Unplaced
+pub mod Exchange
+pub mod Files
+pub mod Texts
