@@ -1,18 +1,24 @@
 -- A call that puts numbers into a list and answers how many there are: its answer and its list, where it
 -- refuses and where it has a value.
 -- Filled          the call's answer and its list at exit are those of an outcome
+-- front-none      no numbers change no cell
 -- refusal-filled  where it refuses, with the list as it was
 -- value-filled    where it has a value, with the front of the list filled
 -- refusal-fits    the place of a refusal that LowPlace allows is below 2^32
-use Prim.Native.Nat.{ℕ, _+_, _*_, _<_}
+use Prim.Native.Nat.{ℕ, _+_, _*_, _<_, min}
 use mathlib.Core.Path.{_≡_, sym, ap, _∙_, subst}
-use mathlib.Core.List.{List}
+use mathlib.Core.List.{List, []}
+use native.Mathlib.Omega.{arith}
 use lib.ListN.{length}
 use Rattle.fields.specs.Parts.{front}
 use Rattle.refusals.specs.Numbers.{Outcome}
 use Rattle.refusals.specs.Numbers.Outcome.{accepted, refused}
 use Rattle.answers.specs.Answers.{packed, listAfter}
 use Rattle.answers.specs.Apart.{LowPlace, low-fits}
+
+-- No numbers, put into the front of a list, change no cell.
+pub front-none : (cells : List ℕ) → cells ≡ front [] cells
+front-none cells = let none : min 0 (length cells) ≡ 0 = omega arith in rw none
 
 module _ {A : Type 0} (numbers : A → List ℕ) (cells : List ℕ) where
   abbrev pub Filled : Outcome A → ℕ → List ℕ → Type 0

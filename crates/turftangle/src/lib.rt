@@ -1,4 +1,4 @@
-// The library for C and Rust: fourteen functions on numbers and lists, as docs/INTERFACE.md fixes them.
+// The library for C and Rust: nineteen functions on numbers and lists, as docs/INTERFACE.md fixes them.
 // Each answers for every file and every number; none has a requires.
 ghost use mathlib.Core.Path.{_≡_};
 ghost use lib.ListN.{length};
@@ -6,6 +6,9 @@ ghost use Rattle.fields.specs.Parts.{front};
 ghost use Rattle.sid.specs.Answers.{sidOutcome};
 ghost use Rattle.sidload.specs.Loading.{loadOutcome, memoryAfter};
 ghost use Rattle.sidspeed.specs.Speed.{speedOutcome};
+ghost use Rattle.sap.specs.Answers.{sapOutcome};
+ghost use Rattle.sapload.specs.Loading.{sapLoadOutcome, sapMemoryAfter};
+ghost use Rattle.sapparts.specs.Asked.{timeOutcome, blockOutcome};
 ghost use Rattle.container.specs.Head.{headOutcome};
 ghost use Rattle.mus.specs.Song.{musOutcome};
 ghost use Rattle.mus.specs.Text.{lineAsked};
@@ -14,6 +17,8 @@ ghost use Rattle.pair.specs.Pairs.{meaningOf};
 ghost use Rattle.codes.specs.Coding.{codeOf};
 ghost use Rattle.answers.specs.Answers.{packed, noValue, listAfter};
 ghost use Rattle.sidcalls.specs.Lists.{headerNumbers};
+ghost use Rattle.sapcalls.specs.Lists.{sapNumbers};
+ghost use Rattle.sapasked.specs.Lists.{timeNumber, blockNumbers};
 ghost use Rattle.muscalls.specs.Lists.{songNumbers};
 ghost use Rattle.musparts.specs.Lists.{lineNumbers, placeNumbers};
 ghost use Rattle.paircalls.specs.Written.{bytesNumber, written};
@@ -21,7 +26,8 @@ ghost use Rattle.paircalls.specs.HalfSteps.{halfStepOutcome};
 ghost use Rattle.card.specs.Kinds.{fileKind};
 ghost use Rattle.reasons.specs.Phrases.{phraseAt};
 
-// What a file is: 1 PSID, 2 RSID, 3 MUS, 0 none of them. It says nothing of whether the file is accepted.
+// What a file is: 1 PSID, 2 RSID, 3 MUS, 4 SAP, 0 none of them. It says nothing of whether the file is
+// accepted.
 #[no_mangle]
 pub extern "C" fn tt_kind(file: &[u8]) -> u64
     ensures { λ r. ⌜ r ≡ fileKind (now (file .entry)) ⌝ }
@@ -70,6 +76,51 @@ pub extern "C" fn tt_sid_speed(file: &[u8], song: u32) -> u64
     ensures { λ r. ⌜ r ≡ packed (λ bit. bit) (speedOutcome (now (file .entry)) song) ⌝ }
 {
     sidcalls::speed(file, song)
+}
+
+// Reads a SAP file: 0, or the first of 51 to 54 that applies.
+#[no_mangle]
+pub extern "C" fn tt_sap_read(file: &[u8]) -> u64
+    ensures { λ r. ⌜ r ≡ packed noValue (sapOutcome (now (file .entry))) ⌝ }
+{
+    sapcalls::read(file)
+}
+
+// The header's fields of a SAP file, as many as fit; how many there are, 21.
+#[no_mangle]
+pub extern "C" fn tt_sap_fields(file: &[u8], out: &mut [u32]) -> u64
+    ensures answer { λ r. ⌜ r ≡ packed (λ h. length (sapNumbers h)) (sapOutcome (now (file .entry))) ⌝ }
+    ensures cells { λ _. ⌜ now (out .exit) ≡ listAfter sapNumbers (sapOutcome (now (file .entry))) (now (out .entry)) ⌝ }
+{
+    sapcalls::fields(file, out)
+}
+
+// Loads a SAP file into the 65,536 cells of memory: 0, or 40, or the file's refusal.
+#[no_mangle]
+pub extern "C" fn tt_sap_load(file: &[u8], memory: &mut [u8]) -> u64
+    ensures answer { λ r. ⌜ r ≡ packed noValue (sapLoadOutcome (now (file .entry)) (length (now (memory .entry)))) ⌝ }
+    ensures cells { λ _. ⌜ now (memory .exit) ≡ sapMemoryAfter (now (file .entry)) (now (memory .entry)) ⌝ }
+{
+    sapcalls::load(file, memory)
+}
+
+// The time of a song of a SAP file, counted from 0: 2 × milliseconds, plus 1 where LOOP follows;
+// 4,294,967,295 where the file does not state it; the file's refusal, or 44.
+#[no_mangle]
+pub extern "C" fn tt_sap_time(file: &[u8], song: u32) -> u64
+    ensures { λ r. ⌜ r ≡ packed timeNumber (timeOutcome (now (file .entry)) song) ⌝ }
+{
+    sapasked::time(file, song)
+}
+
+// A block of a SAP file, counted from 0: 3, with as many of start, end and the offset of its first data byte
+// as fit; 0 where there is no such block; or the file's refusal.
+#[no_mangle]
+pub extern "C" fn tt_sap_block(file: &[u8], number: u32, out: &mut [u32]) -> u64
+    ensures answer { λ r. ⌜ r ≡ packed (λ b. length (blockNumbers b)) (blockOutcome (now (file .entry)) number) ⌝ }
+    ensures cells { λ _. ⌜ now (out .exit) ≡ listAfter blockNumbers (blockOutcome (now (file .entry)) number) (now (out .entry)) ⌝ }
+{
+    sapasked::block(file, number, out)
 }
 
 // Accepts a MUS file: 12, with as many of the voices' numbers as fit, or the first of 21 to 33 that applies.

@@ -1,13 +1,8 @@
-use mathlib.Core.Path.{_≡_, refl, sym, ap, _∙_}
-use Prim.Native.Nat.{ℕ, min}
-use mathlib.Core.List.{List, []}
-use native.Mathlib.Omega.{arith}
-use lib.ListN.{length}
+use mathlib.Core.Path.{refl, sym, ap, _∙_}
 use denote.Ref.{now}
 use borrow.Author.Needs.{needs}
-use Rattle.fields.specs.Parts.{front}
 use Rattle.mus.specs.Text.{outcomeOfLine}
-use Rattle.answers.specs.Filling.{refusal-filled, value-filled, refusal-fits}
+use Rattle.answers.specs.Filling.{front-none, refusal-filled, value-filled, refusal-fits}
 use Rattle.musparts.specs.Lists.{lineNumbers}
 use Rattle.musparts.proofs.Refusals.{line-low}
 use Rattle.musparts.proofs.Accepted.{line-narrow}
@@ -27,10 +22,6 @@ returns c =
     let read = c .before .before .before .before in
     refusal-filled lineNumbers (now (read .before .before .before .args .out)) (c .refused .ensures)
     (ap outcomeOfLine (sym (c .before .before .x .given .1)) ∙ read .text-line .ensures)
-
--- no numbers change no cell
-front-none : (cells : List ℕ) → cells ≡ front [] cells
-front-none cells = let none : min 0 (length cells) ≡ 0 = omega arith in rw none
 
 returns-2 : tie.Need-returns-2
 returns-2 c =
