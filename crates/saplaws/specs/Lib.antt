@@ -2,3 +2,4 @@ pub mod Unplaced
 pub mod Exchange
 pub mod Files
 pub mod Texts
+pub mod Outcomes
