@@ -58,7 +58,7 @@ fn data(after: &[u8]) -> Vec<u8> {
 /// A block with all its data.
 fn block(start: u16, end: u16) -> Vec<u8> {
     let head = [start.to_le_bytes(), end.to_le_bytes()].concat();
-    let length = usize::from(end.wrapping_sub(start)) + 1;
+    let length = usize::from(end.wrapping_sub(start)) + 1; // also where the end is before the start
     [head, vec![0x60; length]].concat()
 }
 
@@ -249,6 +249,7 @@ fn line_ends() {
         [52; 3]
     );
     assert_eq!([after(b"NTSC\n\r"), after(b"NTSC\r\r\n")], [52; 2]);
+    assert_eq!([after(b"NTSC\rx"), after(b"NTSC\rxTEREO\r\n")], [52; 2]);
     assert_eq!([after(b"\r\n"), after(b"\r\nNTSC\r\n")], [52; 2]);
     assert_eq!(number(&file(&["SAP", "", D[0], D[1]], &BLOCKS)), 52);
     // FF FF, but not at a line's start
@@ -493,7 +494,9 @@ fn times_by_song() {
     );
     // the file's own refusal first
     let file = with(&B, &["BAD"]);
-    assert_eq!([0, 1].map(|song| time(&file, song)), [Err(52), Err(52)]);
+    for song in [0, 1, 32, u32::MAX] {
+        assert_eq!(time(&file, song), Err(52));
+    }
 }
 
 /// TYPE R is 53; any other letter, or more than one, is 52.
@@ -622,6 +625,17 @@ fn whole_blocks() {
     assert_eq!(number(&data(&[0x01, 0x20, 0x00, 0x20, 1, 2, 3])), 54);
     assert_eq!(number(&data(&[0x00, 0x20, 0xFF, 0x1F])), 54);
     assert_eq!(number(&data(&[0x00, 0x20, 0xFF, 0x1F, 1])), 54);
+    // as many bytes as a length that is taken from 65,536 would need
+    for (start, end) in [
+        (0x2000, 0x1FFF),
+        (0x2001, 0x1FFF),
+        (0xFFFE, 0x0000),
+        (0x0001, 0x0000),
+    ] {
+        let file = data(&block(start, end));
+        assert!(file.len() > 26 + 4 + usize::from(end));
+        assert_eq!(number(&file), 54, "{start:04X} {end:04X}");
+    }
     let whole = [block(0x2000, 0x2002), block(0x3000, 0x3001)].concat();
     for length in 0..whole.len() {
         let due = if length == 7 { 0 } else { 54 };

@@ -283,6 +283,14 @@ fn between(rng: &mut Rng, parts: &mut Parts) {
     match rng.below(6) {
         0 => (0..rng.between(1, 3)).for_each(|_| new.extend(MARK)),
         1 => new.push(0xFF),
+        // the end before the start, with the data of a length that is taken from 65,536
+        2 if rng.one_in(16) => {
+            let start = rng.between(0x0400, 0xFFFE);
+            let end = start - rng.between(1, 0x0400);
+            new.extend((start as u16).to_le_bytes());
+            new.extend((end as u16).to_le_bytes());
+            new.extend(vec![0x60; 65_536 + end - start + 1]);
+        }
         // both ends near the addresses that no block may touch
         _ => {
             let start = rng.between(0x02D8, 0x02E8);
