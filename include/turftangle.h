@@ -1,4 +1,5 @@
-/* turftangle.h: Turftangle for C and C++. Reads PSID/RSID tunes and Sidplayer MUS songs.
+/* turftangle.h: Turftangle for C and C++. Reads PSID/RSID tunes, Sidplayer MUS songs and Atari SAP
+ * songs.
  *
  * Link with target/staticlib/libturftangle.a, which `rt staticlib turftangle` makes.
  * docs/INTERFACE.md says more, with programs that use each call.
@@ -18,10 +19,11 @@
  * fewer fit. tt_mus_list, which is asked for a window, answers how many cells are filled.
  *
  * Names. A cell of a list is named by its call: TT_FIELD_.. of tt_sid_fields, TT_ACCEPT_.. of
- * tt_mus_accept, TT_VOICES_.. of tt_mus_voices, TT_LINE_.. of tt_mus_line; after them .._GROUP is
- * how many a voice has and .._CELLS how many there are. A value is named by what it is a value
- * of: TT_REFUSED_.., TT_KIND_.., TT_CLOCK_.., TT_MODEL_.., TT_SPEED_... A later release adds names
- * and moves none.
+ * tt_mus_accept, TT_VOICES_.. of tt_mus_voices, TT_LINE_.. of tt_mus_line, TT_SAP_.. of
+ * tt_sap_fields, TT_BLOCK_.. of tt_sap_block; after them .._GROUP is how many a voice has and
+ * .._CELLS how many there are. A value is named by what it is a value of: TT_REFUSED_..,
+ * TT_KIND_.., TT_CLOCK_.., TT_MODEL_.., TT_SPEED_.., TT_TYPE_.., TT_TIME_... A later release adds
+ * names and moves none.
  */
 #ifndef TURFTANGLE_H
 #define TURFTANGLE_H
@@ -107,7 +109,15 @@ enum {
     /* no pair of bytes has this meaning */
     TT_REFUSED_NO_PAIR = 43,
     /* the file has no song of this number */
-    TT_REFUSED_NO_SUCH_SONG = 44
+    TT_REFUSED_NO_SUCH_SONG = 44,
+    /* its first line is not SAP */
+    TT_REFUSED_SAP_FIRST_LINE = 51,
+    /* a line of its header is bad or stands twice, or no FF FF follows it */
+    TT_REFUSED_SAP_LINE = 52,
+    /* its tags do not fit its type or its number of songs */
+    TT_REFUSED_SAP_TAGS = 53,
+    /* a block is bad, cut off or missing */
+    TT_REFUSED_SAP_BLOCK = 54
 };
 
 /* No phrase has more bytes than this. */
@@ -122,16 +132,23 @@ uint64_t tt_reason(uint32_t number, uint8_t *out, size_t out_n);
 /* ---- Any file ---- */
 
 /* The values of tt_kind. A later release may add kinds. */
-enum { TT_KIND_NEITHER = 0, TT_KIND_PSID = 1, TT_KIND_RSID = 2, TT_KIND_MUS = 3 };
+enum {
+    TT_KIND_NEITHER = 0,
+    TT_KIND_PSID = 1,
+    TT_KIND_RSID = 2,
+    TT_KIND_MUS = 3,
+    TT_KIND_SAP = 4
+};
 
-/* What a file is. Value: PSID or RSID where it begins with these letters, accepted or not; else
- * neither where one of 21 to 24 applies to it, else MUS. Refusals: none. */
+/* What a file is. Value: PSID or RSID where it begins with these letters, accepted or not; SAP where
+ * its first five bytes are SAP CR LF, but MUS where it is no accepted SAP file and an accepted MUS
+ * song; else neither where one of 21 to 24 applies to it, else MUS. Refusals: none. */
 uint64_t tt_kind(const uint8_t *file, size_t file_n);
 
-/* ---- PSID and RSID files ---- */
-
-/* The length of a memory. */
+/* The length of a memory, for tt_sid_load and tt_sap_load. */
 enum { TT_MEMORY_SIZE = 65536 };
+
+/* ---- PSID and RSID files ---- */
 
 /* The cells of tt_sid_fields. A part of the file is the offset of its first byte and, in the next
  * cell, its length. A later release adds fields after the last one. */
@@ -253,6 +270,72 @@ uint64_t tt_pair_write(uint32_t code);
  * 0 to 97, since a half-step is -1 to 96. Refusals: 43, for every code that tt_pair_write refuses,
  * and for a command or a rest. */
 uint64_t tt_half_step(uint32_t code);
+
+/* ---- SAP files ---- */
+
+/* The cells of tt_sap_fields. A text is the offset of its first byte and, in the next cell, its
+ * length, both without the quotes; offset 0 where the file has no such text. A later release adds
+ * fields after the last one. */
+enum {
+    TT_SAP_TYPE = 0,          /* TT_TYPE_.. */
+    TT_SAP_SONGS = 1,         /* 1 to 32 */
+    TT_SAP_DEFAULT_SONG = 2,  /* counted from 0 */
+    TT_SAP_STEREO = 3,        /* 0 or 1, as the next two */
+    TT_SAP_NTSC = 4,
+    TT_SAP_COVOX = 5,
+    TT_SAP_FASTPLAY = 6,      /* in scanlines: as stated, else 78 for type S, 262 with NTSC, 312 */
+    TT_SAP_FASTPLAY_STATED = 7,
+    TT_SAP_INIT = 8,          /* 0 where the type has none, as the next two */
+    TT_SAP_MUSIC = 9,
+    TT_SAP_PLAYER = 10,
+    TT_SAP_PLAYER_THERE = 11, /* 0 or 1: whether there is a player */
+    TT_SAP_AUTHOR = 12,
+    TT_SAP_AUTHOR_LENGTH = 13,
+    TT_SAP_NAME = 14,
+    TT_SAP_NAME_LENGTH = 15,
+    TT_SAP_DATE = 16,
+    TT_SAP_DATE_LENGTH = 17,
+    TT_SAP_TIMES = 18,        /* how many times are stated */
+    TT_SAP_BLOCKS = 19,       /* how many blocks there are; 4,294,967,295 where they are more */
+    TT_SAP_DATA = 20,         /* the file offset of the first FF FF */
+    TT_SAP_CELLS = 21
+};
+
+/* The values of cell TT_SAP_TYPE: the type's letter in ASCII. */
+enum { TT_TYPE_B = 66, TT_TYPE_C = 67, TT_TYPE_D = 68, TT_TYPE_S = 83 };
+
+/* The cells of tt_sap_block. */
+enum {
+    TT_BLOCK_START = 0,       /* the address of its first byte */
+    TT_BLOCK_END = 1,         /* the address of its last byte */
+    TT_BLOCK_OFFSET = 2,      /* the file offset of its first byte; 4,294,967,295 where it is past that */
+    TT_BLOCK_CELLS = 3
+};
+
+/* A value of tt_sap_time: the file does not state the song's time. */
+#define TT_TIME_UNSTATED 4294967295u
+
+/* Reads a SAP file of type B, C, D or S. Value: 0. Refusals: 51 to 54. */
+uint64_t tt_sap_read(const uint8_t *file, size_t file_n);
+
+/* Reads the file's fields. Value: how many there are, TT_SAP_CELLS. Refusals: 51 to 54.
+ * out: as many of the fields as fit, from cell 0 on. */
+uint64_t tt_sap_fields(const uint8_t *file, size_t file_n, uint32_t *out, size_t out_n);
+
+/* Loads the file into memory. Value: 0. Refusals: 40 where memory_n is not TT_MEMORY_SIZE, then 51
+ * to 54.
+ * memory: the blocks one after the other, a later byte in place of an earlier one; every other cell
+ * keeps what it held. */
+uint64_t tt_sap_load(const uint8_t *file, size_t file_n, uint8_t *memory, size_t memory_n);
+
+/* The time of a song; songs run from 0. Value: 2 x milliseconds, plus 1 where the song loops from
+ * there on; TT_TIME_UNSTATED where the file does not state it. Refusals: 51 to 54, then 44. */
+uint64_t tt_sap_time(const uint8_t *file, size_t file_n, uint32_t song);
+
+/* Where a block lies and what it is loaded to; blocks run from 0. Value: TT_BLOCK_CELLS, or 0 where
+ * there is no such block. Refusals: 51 to 54.
+ * out: as many of the three numbers as fit; nothing where there is no such block. */
+uint64_t tt_sap_block(const uint8_t *file, size_t file_n, uint32_t n, uint32_t *out, size_t out_n);
 
 #ifdef __cplusplus
 }

@@ -9,7 +9,7 @@ mod plain;
 use std::hint::black_box;
 use std::ops::Range;
 use std::time::{Duration, Instant};
-use turftangle::{mus, pair, sid};
+use turftangle::{mus, pair, sap, sid};
 
 const ROUNDS: usize = 32;
 /// How long one side of a round takes at least.
@@ -23,6 +23,7 @@ fn main() {
     songs();
     parts();
     pairs();
+    atari();
     kinds();
     phrases();
     println!();
@@ -129,6 +130,78 @@ fn tunes() {
     );
 }
 
+/// A SAP file of type B with two blocks, this many bytes in all.
+fn atari_file(length: usize) -> Vec<u8> {
+    let lines = [
+        "SAP",
+        "AUTHOR \"Jakub Husak\"",
+        "NAME \"Inside\"",
+        "DATE \"1990\"",
+        "SONGS 3",
+        "TYPE B",
+        "INIT 0F80",
+        "PLAYER 247F",
+        "TIME 06:37.62",
+        "TIME 02:34.02 LOOP",
+        "TIME 00:15.40 LOOP",
+    ];
+    let mut file = lines.join("\r\n").into_bytes();
+    file.extend(b"\r\n\xFF\xFF");
+    let data = length - file.len() - 2 * 4;
+    // the player and its music
+    for (start, count) in [(0x0600, 1_500), (0x1000, data - 1_500)] {
+        file.extend((start as u16).to_le_bytes());
+        file.extend(((start + count - 1) as u16).to_le_bytes());
+        file.extend((0..count).map(|i| (i * 7 + 1) as u8));
+    }
+    assert_eq!((sap::read(&file), file.len()), (Ok(()), length));
+    file
+}
+
+fn atari() {
+    for length in [5_000, 60_000] {
+        let whole = atari_file(length);
+        let file = || black_box(&whole[..]);
+        contest(
+            &format!("tt_sap_read, a file of {length} bytes"),
+            1,
+            &mut [()],
+            |()| keep(sap::read(file())),
+            |()| keep(apart(|| plain::sap::read(file()).map(|_| ()))),
+        );
+        let mut loads = Load::several(&whole);
+        let what = format!("tt_sap_load, a file of {length} bytes");
+        contest(&what, 1, &mut loads, Load::our_atari, Load::plain_atari);
+    }
+    let whole = atari_file(5_000);
+    let file = || black_box(&whole[..]);
+    contest(
+        "tt_sap_fields, a file of 5000 bytes",
+        1,
+        &mut [[1; 21]],
+        |out| keep(sap::fields_into(file(), black_box(out))),
+        |out| keep(apart(|| plain::sap::fields_into(file(), black_box(out)))),
+    );
+    contest(
+        "tt_sap_time, the same, song 2",
+        1,
+        &mut [()],
+        |()| keep(sap::time(file(), black_box(2))),
+        |()| keep(apart(|| plain::sap::time(file(), black_box(2)))),
+    );
+    contest(
+        "tt_sap_block, the same, block 1",
+        1,
+        &mut [[1; 3]],
+        |out| keep(sap::block_into(file(), black_box(1), black_box(out))),
+        |out| {
+            keep(apart(|| {
+                plain::sap::block_into(file(), black_box(1), black_box(out))
+            }))
+        },
+    );
+}
+
 /// A file somewhere in a buffer, and a memory. What a copy costs hangs on how the two lie to each
 /// other (where the places differ by a little more than pages, some processors take ten times as
 /// long), so that a load is run with several.
@@ -139,13 +212,12 @@ struct Load {
 }
 
 impl Load {
-    fn several(length: usize) -> Vec<Load> {
-        let tune = tune(length);
+    fn several(whole: &[u8]) -> Vec<Load> {
         let load = |i| {
             let from = i * 4_096 / ROUNDS;
-            let file = from..from + tune.len();
-            let mut buffer = vec![1; 4_096 + tune.len()];
-            buffer[file.clone()].copy_from_slice(&tune);
+            let file = from..from + whole.len();
+            let mut buffer = vec![1; 4_096 + whole.len()];
+            buffer[file.clone()].copy_from_slice(whole);
             let memory = vec![1; 65_536];
             Load {
                 buffer,
@@ -168,6 +240,18 @@ impl Load {
         }));
     }
 
+    fn our_atari(&mut self) {
+        let file = black_box(&self.buffer[self.file.clone()]);
+        keep(sap::load(file, black_box(&mut self.memory)));
+    }
+
+    fn plain_atari(&mut self) {
+        let file = black_box(&self.buffer[self.file.clone()]);
+        keep(apart(|| {
+            plain::sap::load(file, black_box(&mut self.memory))
+        }));
+    }
+
     /// The payload's bytes, into the place where the load puts them.
     fn copy(&mut self) {
         let payload = &black_box(&self.buffer[self.file.clone()])[0x7E..];
@@ -179,7 +263,7 @@ impl Load {
 
 fn loads() {
     for length in [4_096, 57_344] {
-        let mut loads = Load::several(length);
+        let mut loads = Load::several(&tune(length));
         let what = format!("tt_sid_load, payload of {length} bytes");
         contest(&what, 1, &mut loads, Load::ours, Load::plain);
     }
@@ -187,7 +271,7 @@ fn loads() {
 
 fn copies() {
     for length in [4_096, 57_344] {
-        let mut loads = Load::several(length);
+        let mut loads = Load::several(&tune(length));
         let what = format!("payload of {length} bytes");
         contest(&what, 1, &mut loads, Load::ours, Load::copy);
     }
@@ -319,7 +403,11 @@ fn parts() {
 }
 
 fn kinds() {
-    for (what, file) in [("a PSID", tune(4_096)), ("a song", song(notes(29_999)))] {
+    for (what, file) in [
+        ("a PSID", tune(4_096)),
+        ("a song", song(notes(29_999))),
+        ("a SAP file of 5000 bytes", atari_file(5_000)),
+    ] {
         let file = || black_box(&file[..]);
         contest(
             &format!("tt_kind, {what}"),

@@ -1,7 +1,7 @@
 //! Says what the library says of files: `cargo run --release --example show -- FILE..`
 
 use std::{env, fs};
-use turftangle::{kind, latin1, mus, pair, sid, Kind, Reason, Refusal, Span};
+use turftangle::{kind, latin1, mus, pair, sap, sid, Kind, Reason, Refusal, Span};
 
 fn main() {
     for name in env::args().skip(1) {
@@ -17,6 +17,7 @@ fn show(name: &str, file: &[u8]) {
     let kind = kind(file);
     let shown = match kind {
         Kind::Psid | Kind::Rsid => tune(name, file),
+        Kind::Sap => atari(name, file),
         _ => song(name, file),
     };
     if let Err(refusal) = shown {
@@ -53,6 +54,55 @@ fn tune(name: &str, file: &[u8]) -> Result<(), Refusal> {
     println!("  songs: {}, starts with {}", header.songs, header.start);
     for song in 1..=header.songs.min(4) {
         println!("    song {song}: {}", sid::speed(file, song)?);
+    }
+    Ok(())
+}
+
+/// A SAP song: its texts, how it is played, its times and its blocks.
+fn atari(name: &str, file: &[u8]) -> Result<(), Refusal> {
+    let header = sap::header(file)?;
+    println!("{name}: SAP, {}", header.player);
+    let texts = [
+        ("author", header.author),
+        ("name", header.name),
+        ("date", header.date),
+    ];
+    for (what, span) in texts {
+        if let Some(span) = span {
+            println!("  {what}: {}", text(file, span));
+        }
+    }
+    match header.player {
+        sap::Player::B { init, player } => println!("  init ${init:04X}, player ${player:04X}"),
+        sap::Player::C { music, player } => println!("  music ${music:04X}, player ${player:04X}"),
+        sap::Player::D {
+            init,
+            player: Some(player),
+        } => println!("  init ${init:04X}, player ${player:04X}"),
+        sap::Player::D { init, player: None } | sap::Player::S { init } => {
+            println!("  init ${init:04X}");
+        }
+    }
+    let machine = if header.ntsc { "NTSC" } else { "PAL" };
+    println!("  {machine}, every {} scanlines", header.fastplay);
+    println!(
+        "  songs: {}, starts with {}",
+        header.songs, header.default_song
+    );
+    for song in 0..header.songs {
+        match sap::time(file, song)? {
+            Some(time) => println!("    song {song}: {time}"),
+            None => println!("    song {song}: time unknown"),
+        }
+    }
+    for number in 0.. {
+        let Some(block) = sap::block(file, number)? else {
+            break;
+        };
+        let sap::Block {
+            start, end, offset, ..
+        } = block;
+        println!("  block {number} at {offset}: ${start:04X}-${end:04X}");
     }
     Ok(())
 }

@@ -10,10 +10,11 @@ mod plain;
 
 use check::{hex, Ask, Call, Checked, Checker};
 use make::rng::Rng;
-use make::{damage, mus, sid};
+use make::{damage, mus, sap, sapdamage, sid};
 use std::time::Instant;
 
-/// Longer ones are cut: the storm is about many inputs, not about long ones.
+/// Longer ones are cut: the storm is about many inputs, not about long ones. A SAP file is not cut,
+/// since its data comes last.
 const LONGEST: usize = 320;
 
 fn main() {
@@ -44,7 +45,7 @@ fn main() {
 struct Storm {
     rng: Rng,
     checker: Checker,
-    /// Files that are accepted, PSID/RSID and MUS in turn; each input is one of them, damaged.
+    /// Files that are accepted, PSID/RSID, MUS and SAP in turn; each input is one of them, damaged.
     right: Vec<Vec<u8>>,
     file: Vec<u8>,
 }
@@ -64,9 +65,10 @@ impl Storm {
     /// Puts another file into one place of the stock.
     fn renew(&mut self, at: usize) {
         let file = &mut self.right[at];
-        match at % 2 {
+        match at % 3 {
             0 => sid::valid(&mut self.rng, 80, file),
-            _ => mus::valid(&mut self.rng, 24, file),
+            1 => mus::valid(&mut self.rng, 24, file),
+            _ => sap::valid(&mut self.rng, 12, file),
         }
     }
 
@@ -80,12 +82,15 @@ impl Storm {
         self.file.clear();
         self.file.extend_from_slice(&self.right[at]);
         for _ in 0..self.rng.pick(&[0, 1, 1, 1, 2, 2, 3, 5]) {
-            match at % 2 {
+            match at % 3 {
                 0 => damage::sid(&mut self.rng, &mut self.file),
-                _ => damage::mus(&mut self.rng, &mut self.file),
+                1 => damage::mus(&mut self.rng, &mut self.file),
+                _ => sapdamage::damage(&mut self.rng, &mut self.file),
             }
         }
-        self.file.truncate(LONGEST);
+        if at % 3 < 2 {
+            self.file.truncate(LONGEST);
+        }
         // a copy with no cell to spare: memcheck sees a read past the end of it
         let file = self.file.clone().into_boxed_slice();
         every_call(&mut self.checker, &mut self.rng, &file)
@@ -108,7 +113,21 @@ fn every_call(checker: &mut Checker, rng: &mut Rng, file: &[u8]) -> Checked {
     checker.mus_list(file, ask, salt)?;
     let number = rng.pick(&[salt, salt >> 25, salt >> 26]);
     checker.reason(number, rng.below(90), salt)?;
+    atari(checker, rng, file, salt)?;
     pairs_and_codes(checker, rng)
+}
+
+fn atari(checker: &mut Checker, rng: &mut Rng, file: &[u8], salt: u32) -> Checked {
+    checker.sap_read(file)?;
+    checker.sap_fields(file, rng.below(26), salt)?;
+    let memory = match rng.below(16) {
+        0 => rng.pick(&[0, 1, 65_535, 65_537]),
+        _ => 65_536,
+    };
+    checker.sap_load(file, memory)?;
+    checker.sap_time(file, rng.pick(&[0, 0, 1, 2, 31, 32, 256, u32::MAX]))?;
+    let number = rng.pick(&[0, 0, 1, 2, 3, 8, u32::MAX]);
+    checker.sap_block(file, number, rng.below(6), salt)
 }
 
 fn pairs_and_codes(checker: &mut Checker, rng: &mut Rng) -> Checked {

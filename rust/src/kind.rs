@@ -10,18 +10,21 @@ use std::fmt;
 #[non_exhaustive]
 #[repr(u8)]
 pub enum Kind {
-    /// It begins with neither PSID nor RSID, and a MUS reader refuses it with 21 to 24.
+    /// It begins with neither PSID, RSID nor SAP, and a MUS reader refuses it with 21 to 24.
     Neither = 0,
     /// It begins with PSID.
     Psid = 1,
     /// It begins with RSID.
     Rsid = 2,
-    /// A MUS song: it has none of the faults 21 to 24.
+    /// A MUS song: it has none of the faults 21 to 24. Where it begins like a SAP file it is an accepted
+    /// song, and no accepted SAP file.
     Mus = 3,
+    /// Its first line is SAP, and it is not [`Kind::Mus`].
+    Sap = 4,
 }
 
 impl Kind {
-    /// The library's number, 0 to 3.
+    /// The library's number, 0 to 4.
     ///
     /// ```
     /// assert_eq!(turftangle::Kind::Mus.number(), 3);
@@ -35,10 +38,11 @@ impl Kind {
 impl fmt::Display for Kind {
     fn fmt(&self, f: &mut fmt::Formatter<'_>) -> fmt::Result {
         f.pad(match self {
-            Kind::Neither => "neither PSID, RSID nor MUS",
+            Kind::Neither => "neither PSID, RSID, MUS nor SAP",
             Kind::Psid => "PSID",
             Kind::Rsid => "RSID",
             Kind::Mus => "MUS",
+            Kind::Sap => "SAP",
         })
     }
 }
@@ -49,6 +53,7 @@ impl fmt::Display for Kind {
 /// use turftangle::{kind, Kind};
 ///
 /// assert_eq!(kind(b"PSID, and nothing after it"), Kind::Psid);
+/// assert_eq!(kind(b"SAP\r\n, and nothing after it"), Kind::Sap);
 /// assert_eq!(kind(b"a letter"), Kind::Neither);
 /// assert_eq!(kind(b"\x00\x09\x02\x00\x02\x00\x02\x00six bytes, and more"), Kind::Mus);
 /// ```
@@ -59,6 +64,7 @@ pub fn kind(file: &[u8]) -> Kind {
         1 => Kind::Psid,
         2 => Kind::Rsid,
         3 => Kind::Mus,
+        4 => Kind::Sap,
         // A test holds the archive's kinds to these.
         number => unreachable!("the library has a kind {number} that this package has not"),
     }

@@ -34,6 +34,18 @@ mod c {
         pub fn tt_pair_read(first: u8, second: u8) -> u64;
         pub fn tt_pair_write(code: u32) -> u64;
         pub fn tt_half_step(code: u32) -> u64;
+        pub fn tt_sap_read(file: *const u8, file_n: usize) -> u64;
+        pub fn tt_sap_fields(file: *const u8, file_n: usize, out: *mut u32, out_n: usize) -> u64;
+        pub fn tt_sap_load(file: *const u8, file_n: usize, memory: *mut u8, memory_n: usize)
+            -> u64;
+        pub fn tt_sap_time(file: *const u8, file_n: usize, song: u32) -> u64;
+        pub fn tt_sap_block(
+            file: *const u8,
+            file_n: usize,
+            n: u32,
+            out: *mut u32,
+            out_n: usize,
+        ) -> u64;
     }
 }
 
@@ -122,4 +134,29 @@ pub fn pair_write(code: u32) -> u64 {
 pub fn half_step(code: u32) -> u64 {
     // SAFETY: a number only.
     unsafe { c::tt_half_step(code) }
+}
+
+pub fn sap_read(file: &[u8]) -> u64 {
+    // SAFETY: the slice is valid for reads of its length.
+    unsafe { c::tt_sap_read(file.as_ptr(), file.len()) }
+}
+
+pub fn sap_fields(file: &[u8], out: &mut [u32]) -> u64 {
+    // SAFETY: both slices are valid for their lengths and apart.
+    unsafe { c::tt_sap_fields(file.as_ptr(), file.len(), out.as_mut_ptr(), out.len()) }
+}
+
+pub fn sap_load(file: &[u8], memory: &mut [u8]) -> u64 {
+    // SAFETY: both slices are valid for their lengths and apart.
+    unsafe { c::tt_sap_load(file.as_ptr(), file.len(), memory.as_mut_ptr(), memory.len()) }
+}
+
+pub fn sap_time(file: &[u8], song: u32) -> u64 {
+    // SAFETY: the slice is valid for reads of its length.
+    unsafe { c::tt_sap_time(file.as_ptr(), file.len(), song) }
+}
+
+pub fn sap_block(file: &[u8], n: u32, out: &mut [u32]) -> u64 {
+    // SAFETY: both slices are valid for their lengths and apart.
+    unsafe { c::tt_sap_block(file.as_ptr(), file.len(), n, out.as_mut_ptr(), out.len()) }
 }

@@ -72,6 +72,14 @@ pub enum Reason {
     NoPair = 43,
     /// 44: the file has no song of this number
     NoSuchSong = 44,
+    /// 51: its first line is not SAP
+    SapFirstLine = 51,
+    /// 52: a line of its header is bad or stands twice, or no FF FF follows it
+    SapLine = 52,
+    /// 53: its tags do not fit its type or its number of songs
+    SapTags = 53,
+    /// 54: a block is bad, cut off or missing
+    SapBlock = 54,
 }
 
 impl Reason {
@@ -108,6 +116,10 @@ impl Reason {
         Reason::ListLengths,
         Reason::NoPair,
         Reason::NoSuchSong,
+        Reason::SapFirstLine,
+        Reason::SapLine,
+        Reason::SapTags,
+        Reason::SapBlock,
     ];
 
     /// The library's number for it.

@@ -27,8 +27,8 @@ impl Span {
 }
 
 /// Bytes of ISO 8859-1 as a String: each byte is the code point of its number. The texts of a tune
-/// are ISO 8859-1; of the lines of a song, which are PETSCII, capital letters and digits come out
-/// right.
+/// are ISO 8859-1, those of a SAP file ASCII, which is a part of it; of the lines of a song, which are
+/// PETSCII, capital letters and digits come out right.
 ///
 /// ```
 /// assert_eq!(turftangle::latin1(b"Fr\xE8re Jacques"), "Frère Jacques");

@@ -5,7 +5,7 @@ use std::collections::BTreeSet;
 use std::fs;
 use std::path::{Path, PathBuf};
 use std::process::{Command, Output};
-use turftangle::{mus, sid, Kind, Reason, PHRASE_MOST};
+use turftangle::{mus, sap, sid, Kind, Reason, PHRASE_MOST};
 
 /// The repository's top folder.
 fn top() -> PathBuf {
@@ -285,7 +285,7 @@ fn cases<T: Copy + std::fmt::Debug>(cases: &[T], number: impl Fn(T) -> u32) -> V
 #[test]
 fn header_values() {
     use sid::{Clock, Model, Speed};
-    let kinds = [Kind::Neither, Kind::Psid, Kind::Rsid, Kind::Mus];
+    let kinds = [Kind::Neither, Kind::Psid, Kind::Rsid, Kind::Mus, Kind::Sap];
     assert_eq!(with_front("TT_KIND_"), cases(&kinds, Kind::number));
     let clocks = [Clock::Unknown, Clock::Pal, Clock::Ntsc, Clock::Both];
     assert_eq!(with_front("TT_CLOCK_"), cases(&clocks, Clock::number));
@@ -293,12 +293,23 @@ fn header_values() {
     assert_eq!(with_front("TT_MODEL_"), cases(&models, Model::number));
     let speeds = [Speed::VerticalBlank, Speed::Cia];
     assert_eq!(with_front("TT_SPEED_"), cases(&speeds, Speed::bit));
+    let types = ["B", "C", "D", "S"].map(|letter| {
+        let number = u32::from(letter.as_bytes()[0]);
+        (letter.to_string(), number)
+    });
+    assert_eq!(with_front("TT_TYPE_"), types);
     let count = |name: &str| with_front(name)[0].1 as usize;
     assert_eq!(count("TT_MEMORY_SIZE"), sid::MEMORY_SIZE);
     assert_eq!(count("TT_FIELD_CELLS"), sid::FIELD_CELLS);
     assert_eq!(count("TT_ACCEPT_CELLS"), mus::ACCEPT_CELLS);
     assert_eq!(count("TT_VOICES_CELLS"), mus::VOICES_CELLS);
     assert_eq!(count("TT_LINE_CELLS"), mus::LINE_CELLS);
+    assert_eq!(count("TT_SAP_CELLS"), sap::FIELD_CELLS);
+    assert_eq!(count("TT_BLOCK_CELLS"), sap::BLOCK_CELLS);
+    assert_eq!(count("TT_MEMORY_SIZE"), sap::MEMORY_SIZE);
+    // a constant of an enum is an int, which cannot hold it
+    let unstated = format!("#define TT_TIME_UNSTATED {}u\n", u32::MAX);
+    assert!(header().contains(&unstated));
     assert_eq!(count("TT_PHRASE_MOST"), PHRASE_MOST);
 }
 
@@ -306,6 +317,11 @@ fn header_values() {
 const FIELDS: &str = "RSID VERSION LOAD INIT PLAY SONGS START SPEED BASIC CLOCK MODEL START_PAGE \
     PAGE_LENGTH TITLE TITLE_LENGTH AUTHOR AUTHOR_LENGTH RELEASED RELEASED_LENGTH PAYLOAD \
     PAYLOAD_LENGTH";
+
+/// The same of a SAP file. A text has two.
+const SAP_FIELDS: &str = "TYPE SONGS DEFAULT_SONG STEREO NTSC COVOX FASTPLAY FASTPLAY_STATED INIT \
+    MUSIC PLAYER PLAYER_THERE AUTHOR AUTHOR_LENGTH NAME NAME_LENGTH DATE DATE_LENGTH TIMES BLOCKS \
+    DATA";
 
 /// The cells of a list have the names of what stands there, in that order; the last names are how
 /// many a voice has, where there are three voices, and how many there are.
@@ -316,6 +332,8 @@ fn header_cells() {
         ("TT_ACCEPT_", "OFFSET PAIRS EVENTS WALKED", 3),
         ("TT_VOICES_", "OFFSET PAIRS", 3),
         ("TT_LINE_", "OFFSET LENGTH", 1),
+        ("TT_SAP_", SAP_FIELDS, 1),
+        ("TT_BLOCK_", "START END OFFSET", 1),
     ] {
         let mut wanted: Vec<(&str, u32)> = names.split_whitespace().zip(0..).collect();
         let count = wanted.len() as u32;

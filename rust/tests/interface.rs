@@ -8,7 +8,7 @@ use std::process::{Command as Program, Termination};
 use std::{env, iter};
 use turftangle::pair::{self, Accidental, Command, Letter, Meaning, Name, Tone};
 use turftangle::sid::{self, Clock, Format, Model, Speed};
-use turftangle::{kind, latin1, mus, reason_into, Kind, Reason, Refusal, Span};
+use turftangle::{kind, latin1, mus, reason_into, sap, Kind, Reason, Refusal, Span};
 
 /// A file of the repository's crates.
 macro_rules! sample {
@@ -23,9 +23,12 @@ const REEL: &[u8] = sample!("muscheck/stdin");
 /// Its first voice has a repeat without an end: 30.
 const UNCLOSED: &[u8] = sample!("cardcheck/data/unclosed.mus");
 
-/// The numbers of document 01's table.
+/// The example of source document 002.
+const INSIDE: &[u8] = include_bytes!("data/inside.sap");
+
+/// The numbers of document 01's table, and those of document 02 (i).
 fn table() -> impl Iterator<Item = u32> {
-    (1..=13).chain(21..=33).chain(40..=44)
+    (1..=13).chain(21..=33).chain(40..=44).chain(51..=54)
 }
 
 #[test]
@@ -133,6 +136,7 @@ const _: fn() = || {
     error::<Refusal>();
     sent::<mus::Events<'_>>();
     sent::<sid::Header>();
+    sent::<sap::Header>();
     sent::<Meaning>();
 };
 
@@ -578,11 +582,53 @@ fn ask_of_voices(file: &[u8]) {
     }
 }
 
+/// The same on an Atari song: what the header counts is what the other functions hand out.
+fn ask_of_atari(file: &[u8]) {
+    let read = sap::read(file);
+    let header = sap::header(file);
+    assert_eq!(header.map(|_| ()), read);
+    assert_eq!(sap::fields_into(file, &mut []).map(|_| ()), read);
+    let mut memory = vec![0; sap::MEMORY_SIZE];
+    assert_eq!(sap::load(file, &mut memory), read);
+    for cells in [0, 1, sap::MEMORY_SIZE - 1] {
+        let refusal = sap::load(file, &mut memory[..cells]).unwrap_err();
+        assert_eq!(refusal.reason, Reason::MemorySize);
+    }
+    let (songs, times, blocks) = header.map_or((0, 0, 0), |h| (h.songs, h.times, h.blocks));
+    for number in NUMBERS {
+        let time = sap::time(file, number);
+        assert_eq!(time.is_ok(), number < songs);
+        let stated = time.map_or(false, |time| time.is_some());
+        assert_eq!(stated, (number as usize) < times);
+        let block = sap::block(file, number);
+        assert_eq!(block.map(|_| ()), read);
+        assert_eq!(sap::block_into(file, number, &mut []).map(|_| ()), read);
+        let block = block.ok().flatten();
+        assert_eq!(block.is_some(), (number as usize) < blocks);
+        let there = block.map(|block| block.span().of(file).map(<[u8]>::len));
+        let due = block.map(|block| Some(usize::from(block.end - block.start) + 1));
+        assert_eq!(there, due);
+    }
+    if let Ok(header) = header {
+        assert!(file[header.data..].starts_with(&[0xFF, 0xFF]));
+        for text in [header.author, header.name, header.date]
+            .into_iter()
+            .flatten()
+        {
+            assert!(text.of(file).map_or(false, |bytes| bytes.len() <= 120));
+        }
+    }
+}
+
 /// What a file is, from the other functions' answers.
 fn expected_kind(file: &[u8]) -> Kind {
     match mus::voices(file) {
         _ if file.starts_with(b"PSID") => Kind::Psid,
         _ if file.starts_with(b"RSID") => Kind::Rsid,
+        _ if file.starts_with(b"SAP\r\n") => match (sap::read(file), mus::accept(file)) {
+            (Err(_), Ok(_)) => Kind::Mus,
+            _ => Kind::Sap,
+        },
         Ok(_) => Kind::Mus,
         Err(_) => Kind::Neither,
     }
@@ -592,16 +638,17 @@ fn ask(file: &[u8]) {
     ask_of_tune(file);
     ask_of_song(file);
     ask_of_voices(file);
+    ask_of_atari(file);
     assert_eq!(kind(file), expected_kind(file));
 }
 
 /// Every byte of the samples changed, and the samples cut at every length.
 #[test]
 fn no_file_makes_a_function_panic() {
-    for sample in [TUNE, MACHINE, REEL, UNCLOSED] {
+    for sample in [TUNE, MACHINE, REEL, UNCLOSED, INSIDE] {
         for at in 0..sample.len() {
             ask(&sample[..at]);
-            for byte in [0, 1, 0x0D, 0x7F, 0x80, 0xFF] {
+            for byte in [0, 1, 0x0D, b'2', 0x7F, 0x80, 0xFF] {
                 let mut file = sample.to_vec();
                 file[at] = byte;
                 ask(&file);
@@ -612,12 +659,66 @@ fn no_file_makes_a_function_panic() {
     ask(&vec![0; 70_000]);
 }
 
-/// The four kinds have numbers 0 to 3, and words of their own.
+/// The five kinds have numbers 0 to 4, and words of their own.
 #[test]
 fn kinds() {
-    let kinds = [&b"?"[..], TUNE, MACHINE, UNCLOSED].map(kind);
-    assert_eq!(kinds, [Kind::Neither, Kind::Psid, Kind::Rsid, Kind::Mus]);
-    assert_eq!(kinds.map(Kind::number), [0, 1, 2, 3]);
+    let kinds = [&b"?"[..], TUNE, MACHINE, UNCLOSED, INSIDE].map(kind);
+    let due = [Kind::Neither, Kind::Psid, Kind::Rsid, Kind::Mus, Kind::Sap];
+    assert_eq!(kinds, due);
+    assert_eq!(kinds.map(Kind::number), [0, 1, 2, 3, 4]);
     let words: HashSet<String> = kinds.iter().map(Kind::to_string).collect();
-    assert_eq!(words.len(), 4);
+    assert_eq!(words.len(), 5);
+}
+
+/// The four types as players, each with its letter; times in the words of a TIME line.
+#[test]
+fn players_and_times() {
+    for (lines, player) in [
+        (
+            "B\r\nINIT 0F80\r\nPLAYER 247F",
+            sap::Player::B {
+                init: 0x0F80,
+                player: 0x247F,
+            },
+        ),
+        (
+            "C\r\nMUSIC 4000\r\nPLAYER 247F",
+            sap::Player::C {
+                music: 0x4000,
+                player: 0x247F,
+            },
+        ),
+        (
+            "D\r\nINIT 0F80",
+            sap::Player::D {
+                init: 0x0F80,
+                player: None,
+            },
+        ),
+        (
+            "D\r\nINIT 0F80\r\nPLAYER 0000",
+            sap::Player::D {
+                init: 0x0F80,
+                player: Some(0),
+            },
+        ),
+        (
+            "S\r\nINIT 0F80\r\nPLAYER 247F",
+            sap::Player::S { init: 0x0F80 },
+        ),
+    ] {
+        let text = format!("SAP\r\nTYPE {lines}\r\nTIME 9:99.5 LOOP\r\n");
+        let file = [text.as_bytes(), &[0xFF, 0xFF, 0, 0x20, 0, 0x20, 0x60]].concat();
+        let header = sap::header(&file).expect("accepted");
+        assert_eq!(header.player, player);
+        assert!(lines.starts_with(player.letter()));
+        assert_eq!(player.to_string(), format!("type {}", player.letter()));
+        let time = sap::time(&file, 0).expect("accepted").expect("stated");
+        assert_eq!((time.milliseconds, time.looped), (639_500, true));
+        assert_eq!(time.to_string(), "10:39.500 LOOP");
+        assert_eq!(
+            (header.author, header.name, header.date),
+            (None, None, None)
+        );
+    }
 }

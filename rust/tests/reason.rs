@@ -9,9 +9,10 @@ use make::rng::Rng;
 use plain::reason::Phrases;
 use turftangle::{reason_into, Reason};
 
-/// The numbers of document 01's table.
+/// The numbers of document 01's table, and those of document 02 (i).
 fn numbers() -> Vec<u32> {
-    (1..=13).chain(21..=33).chain(40..=44).collect()
+    let numbers = (1..=13).chain(21..=33).chain(40..=44);
+    numbers.chain(51..=54).collect()
 }
 
 /// Each refusal has a phrase and no other number has one, in the document and in the library; the
@@ -74,5 +75,22 @@ fn phrases_are_plain() {
         );
         assert!(phrase[0] != b' ' && phrase[length - 1] != b' ', "{number}");
         assert_eq!(cells[length..], [0; 200][length..]);
+    }
+}
+
+/// Those of SAP files, word by word.
+#[test]
+fn phrases_of_sap() {
+    for (number, phrase) in [
+        (51, "its first line is not SAP"),
+        (
+            52,
+            "a line of its header is bad or stands twice, or no FF FF follows it",
+        ),
+        (53, "its tags do not fit its type or its number of songs"),
+        (54, "a block is bad, cut off or missing"),
+    ] {
+        let reason = Reason::from_number(number).expect("it has a name");
+        assert_eq!(reason.phrase(), phrase);
     }
 }

@@ -98,10 +98,15 @@ pub enum Call {
     PairRead,
     PairWrite,
     HalfStep,
+    SapRead,
+    SapFields,
+    SapLoad,
+    SapTime,
+    SapBlock,
 }
 
 impl Call {
-    pub const ALL: [Call; 14] = [
+    pub const ALL: [Call; 19] = [
         Call::Kind,
         Call::Reason,
         Call::SidRead,
@@ -116,6 +121,11 @@ impl Call {
         Call::PairRead,
         Call::PairWrite,
         Call::HalfStep,
+        Call::SapRead,
+        Call::SapFields,
+        Call::SapLoad,
+        Call::SapTime,
+        Call::SapBlock,
     ];
 
     /// Its name in C.
@@ -135,12 +145,17 @@ impl Call {
             Call::PairRead => "tt_pair_read",
             Call::PairWrite => "tt_pair_write",
             Call::HalfStep => "tt_half_step",
+            Call::SapRead => "tt_sap_read",
+            Call::SapFields => "tt_sap_fields",
+            Call::SapLoad => "tt_sap_load",
+            Call::SapTime => "tt_sap_time",
+            Call::SapBlock => "tt_sap_block",
         }
     }
 }
 
 /// How often a call gave each answer: by the number of the refusal, 0 for a value.
-type Tally = [u64; 45];
+type Tally = [u64; 55];
 
 /// The greatest memory that is lent.
 const MOST_MEMORY: usize = 65_536 + 16;
@@ -149,7 +164,7 @@ const MOST_MEMORY: usize = 65_536 + 16;
 pub struct Checker {
     tallies: [Tally; Call::ALL.len()],
     /// How often `tt_kind` gave each kind.
-    kinds: [u64; 4],
+    kinds: [u64; 5],
     phrases: plain::reason::Phrases,
     memory: Twin<u8>,
     bytes: Twin<u8>,
@@ -160,8 +175,8 @@ pub struct Checker {
 impl Checker {
     pub fn new() -> Checker {
         let mut checker = Checker {
-            tallies: [[0; 45]; Call::ALL.len()],
-            kinds: [0; 4],
+            tallies: [[0; 55]; Call::ALL.len()],
+            kinds: [0; 5],
             phrases: plain::reason::Phrases::new(),
             memory: Twin::new(),
             bytes: Twin::new(),
@@ -341,6 +356,51 @@ impl Checker {
         self.judge(Call::HalfStep, arguments, library, plain, true)
     }
 
+    pub fn sap_read(&mut self, file: &[u8]) -> Checked {
+        let wrapper = of_wrapper(turftangle::sap::read(file).map(|()| 0_u64));
+        let library = [of_library(raw::sap_read(file)), wrapper];
+        let plain = of_plain(plain::sap::read(file).map(|_| 0_u64));
+        self.judge(Call::SapRead, String::new, library, plain, true)
+    }
+
+    pub fn sap_fields(&mut self, file: &[u8], length: usize, salt: u32) -> Checked {
+        self.one.fill(length, pattern(salt));
+        let (ours, theirs) = self.one.lend(length);
+        let library = of_library(raw::sap_fields(file, ours));
+        let plain = of_plain(plain::sap::fields_into(file, theirs));
+        let arguments = || format!(" into {length}");
+        let lists = self.one.same();
+        self.judge(Call::SapFields, arguments, [library], plain, lists)
+    }
+
+    pub fn sap_load(&mut self, file: &[u8], length: usize) -> Checked {
+        let (ours, theirs) = self.memory.lend(length);
+        let library = of_library(raw::sap_load(file, ours));
+        let plain = of_plain(plain::sap::load(file, theirs).map(|()| 0_u64));
+        let arguments = || format!(" into {length}");
+        let lists = self.memory.same();
+        self.judge(Call::SapLoad, arguments, [library], plain, lists)
+    }
+
+    pub fn sap_time(&mut self, file: &[u8], song: u32) -> Checked {
+        let wrapper = turftangle::sap::time(file, song);
+        let wrapper = of_wrapper(wrapper.map(|time| time.map_or(u32::MAX, |time| time.number())));
+        let library = [of_library(raw::sap_time(file, song)), wrapper];
+        let plain = of_plain(plain::sap::time(file, song));
+        let arguments = || format!(" of {song}");
+        self.judge(Call::SapTime, arguments, library, plain, true)
+    }
+
+    pub fn sap_block(&mut self, file: &[u8], number: u32, length: usize, salt: u32) -> Checked {
+        self.one.fill(length, pattern(salt));
+        let (ours, theirs) = self.one.lend(length);
+        let library = of_library(raw::sap_block(file, number, ours));
+        let plain = of_plain(plain::sap::block_into(file, number, theirs));
+        let arguments = || format!(" {number} into {length}");
+        let lists = self.one.same();
+        self.judge(Call::SapBlock, arguments, [library], plain, lists)
+    }
+
     /// How often each refusal came from a call, 0 counting the values.
     pub fn tally(&self, call: Call) -> &Tally {
         &self.tallies[call as usize]
@@ -382,6 +442,18 @@ impl Checker {
         }
         for (number, count) in tally.into_iter().enumerate() {
             assert_eq!(count, 0, "{} {number} came", call.name());
+        }
+    }
+
+    /// Fails where one of these refusals came less often from the call; 0 stands for a value.
+    pub fn came_often(&self, call: Call, least: &[(usize, u64)]) {
+        for &(number, least) in least {
+            let count = self.tally(call)[number];
+            let name = call.name();
+            assert!(
+                count >= least,
+                "{name} {number} came {count} times of {least}"
+            );
         }
     }
 

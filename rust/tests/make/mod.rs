@@ -7,4 +7,6 @@
 pub mod damage;
 pub mod mus;
 pub mod rng;
+pub mod sap;
+pub mod sapdamage;
 pub mod sid;

@@ -1,4 +1,4 @@
-//! A plain reader of PSID/RSID and MUS files, written from the papers alone. It shares nothing
+//! A plain reader of PSID/RSID, MUS and SAP files, written from the papers alone. It shares nothing
 //! with the library: the tests hold the two against each other, the benchmark runs both.
 
 // Each program that includes it uses a part of it.
@@ -8,6 +8,7 @@ pub mod code;
 pub mod mus;
 pub mod pair;
 pub mod reason;
+pub mod sap;
 pub mod sid;
 
 /// The number and place of document 01.
@@ -30,13 +31,20 @@ impl Refusal {
     }
 }
 
-/// What a file is: 1 where it begins like a PSID, 2 like an RSID; else 3 where it has the voices of
+/// What a file is: 1 where it begins like a PSID, 2 like an RSID; 4 where it begins like a SAP file,
+/// but 3 where it is an accepted MUS song and no accepted SAP file; else 3 where it has the voices of
 /// a MUS song, 0 where it has not.
 pub fn kind(file: &[u8]) -> u32 {
     if file.starts_with(b"PSID") {
         1
     } else if file.starts_with(b"RSID") {
         2
+    } else if sap::begins(file) {
+        if sap::read(file).is_err() && mus::accept(file).is_ok() {
+            3
+        } else {
+            4
+        }
     } else if mus::has_voices(file) {
         3
     } else {
