@@ -1,7 +1,8 @@
--- docs/INTERFACE.md, 'The songs and blocks of a SAP file': what tt_sap_time answers, and what stands in the
--- list after tt_sap_block.
--- timeNumber     '2 × milliseconds, plus 1 where LOOP; 4,294,967,295 where it is unstated'
--- blockNumbers   'start, end, offset'; nothing 'where there is no such block'
+-- docs/INTERFACE.md, 'What a call answers' and 'The fields, times and blocks of a SAP file': what tt_sap_time
+-- answers, and what stands in the list after tt_sap_block.
+-- timeNumber     2 × milliseconds, plus 1 where LOOP follows; 4,294,967,295 where the time is unstated
+-- blockNumbers   'the address of the block's first byte, that of its last byte, and the file offset of its
+--                first byte'; nothing where there is no such block
 use Prim.Native.Nat.{ℕ, _+_, _*_}
 use mathlib.Core.List.{List, [], _∷_}
 use Rattle.sapblocks.specs.declared.Wanted.{Wanted}

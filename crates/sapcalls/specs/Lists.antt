@@ -1,11 +1,13 @@
--- docs/INTERFACE.md, 'The fields of a SAP file': what stands in the list after a call that accepts.
--- narrowed                   'A count or offset above 4,294,967,295 is given as 4,294,967,295'
--- flagNumber, statedNumber   '1 where the tag stands, else 0'
--- letterNumber               'the type's letter as its ASCII code'
--- initNumber, musicNumber, playerNumber   the addresses, '0 where the kind has none'
--- hasPlayer                  'whether there is a player': type D only where it states one, type S never
+-- docs/INTERFACE.md, 'The fields, times and blocks of a SAP file': what stands in the list after a call that
+-- accepts.
+-- narrowed                   'A count or offset that is greater than 4,294,967,295 is given as 4,294,967,295'
+-- flagNumber, statedNumber   '1 with STEREO, else 0'; '1 where FASTPLAY is stated, else 0'
+-- letterNumber               'the type's letter in ASCII'
+-- initNumber, musicNumber, playerNumber   the addresses, 0 where the type has none
+-- hasPlayer                  '1 where there is a player, else 0': of type D only where it states one
 -- kindNumbers                these five together
--- offsetNumber, lengthNumber, textNumbers   where a text stands and how long it is; 'offset 0: absent'
+-- offsetNumber, lengthNumber, textNumbers   the offset and the length of a text; '0 and 0 where there is no
+--                            such tag'
 -- sapNumbers                 the header's fields in their order
 use Prim.Native.Nat.{ℕ, min}
 use mathlib.Core.Bool.{Bool, true, false}
