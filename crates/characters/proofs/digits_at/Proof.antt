@@ -24,15 +24,6 @@ returns c = digits-none _ _ (none-past (isDigit (c .before .before .args .base))
 loop-holds : tie.Need-loop-holds Inv-loop μ-loop
 loop-holds c = ((omega arith, omega arith, omega arith), record { small = omega arith; whole = refl })
 
-shared-slice-read-digit-value : tie.Need-shared-slice-read-digit-value Inv-loop μ-loop
-shared-slice-read-digit-value c = omega arith
-
-digit-value-requires : tie.Need-digit-value-requires Inv-loop μ-loop
-digit-value-requires c κs = search needs
-
-sub-t13 : tie.Need-sub-t13 Inv-loop μ-loop
-sub-t13 c = omega arith
-
 returns-2 : tie.Need-returns-2 Inv-loop μ-loop
 returns-2 c =
     let l = c .before .before .before .before .loop in
@@ -47,15 +38,6 @@ mul-lesser c = omega (arith, product-fits (c .before .before .before .before .lo
 add-lesser : tie.Need-add-lesser Inv-loop μ-loop
 add-lesser c = omega (arith, product-fits (c .before .before .before .before .loop .inv .1) (c .before .before .before .before .before .before .before .pre .1))
 
-lesser-requires : tie.Need-lesser-requires Inv-loop μ-loop
-lesser-requires c κs = search needs
-
-add-n : tie.Need-add-n Inv-loop μ-loop
-add-n c = omega arith
-
-loop-less : tie.Need-loop-less Inv-loop μ-loop
-loop-less c = omega arith
-
 loop-again : tie.Need-loop-again Inv-loop μ-loop
 loop-again c =
     let l = c .before .before .before .before .before .loop in
@@ -64,9 +46,6 @@ loop-again c =
     let is = lt-ltb _ _ (subst (λ (d : ℕ). d < base) digit (c .before .if2 .left)) in
     let at = c .before .before .before .before .loop-test .taken in
     (counted-more (isDigit base) _ _ _ (l .inv .0) at is, read-more (l .inv .1) _ (c .before .before .before .before .before .before .before .before .pre .0) at is (subst (λ (d : ℕ). c .lesser .result ≡ min (l .value * base + d) most) digit (c .lesser .ensures)))
-
-sub-t16 : tie.Need-sub-t16 Inv-loop μ-loop
-sub-t16 c = omega arith
 
 returns-3 : tie.Need-returns-3 Inv-loop μ-loop
 returns-3 c =
@@ -82,15 +61,15 @@ digits-at-spec =
     μ-loop
     returns
     loop-holds
-    shared-slice-read-digit-value
-    digit-value-requires
-    sub-t13
+    (λ c. omega arith)
+    (λ c κs. search needs)
+    (λ c. omega arith)
     returns-2
     mul-lesser
     add-lesser
-    lesser-requires
-    add-n
-    loop-less
+    (λ c κs. search needs)
+    (λ c. omega arith)
+    (λ c. omega arith)
     loop-again
-    sub-t16
+    (λ c. omega arith)
     returns-3)

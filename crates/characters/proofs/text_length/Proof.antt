@@ -22,26 +22,11 @@ returns c = sym (ap length (none-past isTextCharacter _ _ (c .if1 .taken)))
 loop-holds : tie.Need-loop-holds Inv-loop μ-loop
 loop-holds c = (omega arith, omega arith, omega arith)
 
-shared-slice-read-b : tie.Need-shared-slice-read-b Inv-loop μ-loop
-shared-slice-read-b c = omega arith
-
-sub-result : tie.Need-sub-result Inv-loop μ-loop
-sub-result c = omega arith
-
 returns-2 : tie.Need-returns-2 Inv-loop μ-loop
 returns-2 c = counted-closed isTextCharacter _ _ _ (c .before .before .before .loop .inv) (c .before .before .loop-test .taken) (not-true _ (c .if2 .taken))
 
-add-n : tie.Need-add-n Inv-loop μ-loop
-add-n c = omega arith
-
-loop-less : tie.Need-loop-less Inv-loop μ-loop
-loop-less c = omega arith
-
 loop-again : tie.Need-loop-again Inv-loop μ-loop
 loop-again c = counted-more isTextCharacter _ _ _ (c .before .before .before .loop .inv) (c .before .before .loop-test .taken) (not-false _ (c .if2 .left))
-
-sub-result-2 : tie.Need-sub-result-2 Inv-loop μ-loop
-sub-result-2 c = omega arith
 
 returns-3 : tie.Need-returns-3 Inv-loop μ-loop
 returns-3 c = counted-all isTextCharacter _ _ _ (c .before .loop .inv) (c .loop-test .left)
@@ -54,11 +39,11 @@ text-length-spec =
     μ-loop
     returns
     loop-holds
-    shared-slice-read-b
-    sub-result
+    (λ c. omega arith)
+    (λ c. omega arith)
     returns-2
-    add-n
-    loop-less
+    (λ c. omega arith)
+    (λ c. omega arith)
     loop-again
-    sub-result-2
+    (λ c. omega arith)
     returns-3)

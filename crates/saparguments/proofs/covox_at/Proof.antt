@@ -3,9 +3,6 @@ use borrow.Author.Needs.{needs}
 use Rattle.saparguments.proofs.covox_at.Statement.{statement}
 use Rattle.saparguments.proofs.covox_at.Tie as tie
 
-digits-at-requires : tie.Need-digits-at-requires
-digits-at-requires c κs = search needs
-
 returns : tie.Need-returns
 returns c = rw (← c .before .digits-at .ensures, c .if1 .taken)
 
@@ -13,4 +10,4 @@ returns-2 : tie.Need-returns-2
 returns-2 c = rw (← c .before .digits-at .ensures, c .if1 .left)
 
 pub covox-at-spec : {M : Type 1} → statement M
-covox-at-spec = tie.close (tie.spec digits-at-requires returns returns-2)
+covox-at-spec = tie.close (tie.spec (λ c κs. search needs) returns returns-2)

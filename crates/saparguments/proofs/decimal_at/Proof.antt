@@ -5,12 +5,6 @@ use borrow.Author.Needs.{needs}
 use Rattle.saparguments.proofs.decimal_at.Statement.{statement}
 use Rattle.saparguments.proofs.decimal_at.Tie as tie
 
-digits-at-requires : tie.Need-digits-at-requires
-digits-at-requires c κs = search needs
-
-byte-at-requires : tie.Need-byte-at-requires
-byte-at-requires c κs = search needs
-
 returns : tie.Need-returns
 returns c =
     let a = c .before .before .before .before .args in
@@ -22,4 +16,4 @@ returns-2 c =
     rw (← c .before .before .digits-at .ensures, byte-here (now (a .file)) (a .at), ← c .before .byte-at .ensures, c .if1 .left)
 
 pub decimal-at-spec : {M : Type 1} → statement M
-decimal-at-spec = tie.close (tie.spec digits-at-requires byte-at-requires returns returns-2)
+decimal-at-spec = tie.close (tie.spec (λ c κs. search needs) (λ c κs. search needs) returns returns-2)

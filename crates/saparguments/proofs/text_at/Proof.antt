@@ -11,23 +11,8 @@ use borrow.Author.Needs.{needs}
 use Rattle.saparguments.proofs.text_at.Statement.{statement}
 use Rattle.saparguments.proofs.text_at.Tie as tie
 
-byte-at-requires : tie.Need-byte-at-requires
-byte-at-requires c κs = search needs
-
-add-text-length : tie.Need-add-text-length
-add-text-length c = search needs
-
-text-length-requires : tie.Need-text-length-requires
-text-length-requires c κs = search needs
-
-add-byte-at : tie.Need-add-byte-at
-add-byte-at c = search needs
-
 add-byte-at-2 : tie.Need-add-byte-at-2
 add-byte-at-2 c = let m = c .before .before .before in omega (arith, m .pre, m .good .0 .1, text-inside (now (m .args .file)) (m .args .at + 1) _ (c .text-length .ensures))
-
-byte-at-requires-2 : tie.Need-byte-at-requires-2
-byte-at-requires-2 c κs = search needs
 
 add-t14 : tie.Need-add-t14
 add-t14 c = let m = c .before .before .before .before .before in omega (arith, m .good .0 .1, text-inside (now (m .args .file)) (m .args .at + 1) _ (c .before .before .text-length .ensures))
@@ -49,12 +34,12 @@ pub text-at-spec : {M : Type 1} → statement M
 text-at-spec =
     tie.close
     (tie.spec
-    byte-at-requires
-    add-text-length
-    text-length-requires
-    add-byte-at
+    (λ c κs. search needs)
+    (λ c. search needs)
+    (λ c κs. search needs)
+    (λ c. search needs)
     add-byte-at-2
-    byte-at-requires-2
+    (λ c κs. search needs)
     add-t14
     cast-t15
     returns

@@ -4,9 +4,6 @@ use borrow.Author.Needs.{needs}
 use Rattle.sapheader.proofs.fastplay_for.Statement.{statement}
 use Rattle.sapheader.proofs.fastplay_for.Tie as tie
 
-cast-result : tie.Need-cast-result
-cast-result c = search needs
-
 returns : tie.Need-returns
 returns c = rw (ne-eqb _ _ (c .if1 .taken))
 
@@ -20,4 +17,4 @@ returns-4 : tie.Need-returns-4
 returns-4 c = rw (eq-eqb _ _ (c .before .before .if1 .left), ne-eqb _ _ (c .before .if2 .left), c .if3 .left)
 
 pub fastplay-for-spec : {M : Type 1} → statement M
-fastplay-for-spec = tie.close (tie.spec cast-result returns returns-2 returns-3 returns-4)
+fastplay-for-spec = tie.close (tie.spec (λ c. search needs) returns returns-2 returns-3 returns-4)

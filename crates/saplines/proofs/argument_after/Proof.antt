@@ -16,31 +16,16 @@ use Rattle.saplines.proofs.argument_after.Tie as tie
 abbrev isAlone : ℕ → Bool
 isAlone n = eqb n 5 || eqb n 6
 
-number-of-requires : tie.Need-number-of-requires
-number-of-requires c κs = search needs
-
 returns : tie.Need-returns
 returns c = argument-alone (now (c .before .before .before .args .file)) (c .before .before .before .args .at) _ (ap isAlone (sym (c .before .number-of .ensures)) ∙ c .if1 .taken)
 
-byte-at-requires : tie.Need-byte-at-requires
-byte-at-requires c κs = search needs
-
 returns-2 : tie.Need-returns-2
 returns-2 c = argument-unspaced (now (c .before .before .before .before .before .args .file)) (c .before .before .before .before .before .args .at) _ (ap isAlone (sym (c .before .before .before .number-of .ensures)) ∙ c .before .before .if1 .left) (λ e. c .if2 .taken (c .before .byte-at .ensures ∙ e))
-
-add-value-at : tie.Need-add-value-at
-add-value-at c = search needs
 
 value-at-requires : tie.Need-value-at-requires
 value-at-requires c κs =
     let m = c .before .before .before .before .before in
     omega (arith, m .good .0 .1, byte-inside (now (m .args .file)) (m .args .at) 0x20 (omega arith) (sym (c .before .byte-at .ensures) ∙ c .if2 .left))
-
-enum-told : tie.Need-enum-told
-enum-told c = search needs
-
-enum-known-n : tie.Need-enum-known-n
-enum-known-n c = search needs
 
 add-t14 : tie.Need-add-t14
 add-t14 c =
@@ -57,14 +42,14 @@ pub argument-after-spec : {M : Type 1} → statement M
 argument-after-spec =
     tie.close
     (tie.spec
-    number-of-requires
+    (λ c κs. search needs)
     returns
-    byte-at-requires
+    (λ c κs. search needs)
     returns-2
-    add-value-at
+    (λ c. search needs)
     value-at-requires
-    enum-told
-    enum-known-n
+    (λ c. search needs)
+    (λ c. search needs)
     add-t14
     returns-3
     returns-4)

@@ -10,29 +10,11 @@ use borrow.Author.Needs.{needs}
 use Rattle.saplines.proofs.line_at.Statement.{statement}
 use Rattle.saplines.proofs.line_at.Tie as tie
 
-tag-at-requires : tie.Need-tag-at-requires
-tag-at-requires c κs = search needs
-
-enum-told : tie.Need-enum-told
-enum-told c = search needs
-
-enum-known-tag : tie.Need-enum-known-tag
-enum-known-tag c = search needs
-
-name-length-requires : tie.Need-name-length-requires
-name-length-requires c κs = search needs
-
 add-argument-after : tie.Need-add-argument-after
 add-argument-after c = let m = c .before .before .before .before .before .before in omega (arith, m .good .0 .1, c .name-length .ensures, name-inside (now (c .before .before .before .before .before .before .args .file)) (c .before .before .before .before .before .before .args .at) _ (sym (c .before .before .before .before .tag-at .ensures) ∙ c .before .before .tag .given .1) (m .pre))
 
 argument-after-requires : tie.Need-argument-after-requires
 argument-after-requires c κs = let m = c .before .before .before .before .before .before in omega (arith, m .good .0 .1, c .name-length .ensures, name-inside (now (c .before .before .before .before .before .before .args .file)) (c .before .before .before .before .before .before .args .at) _ (sym (c .before .before .before .before .tag-at .ensures) ∙ c .before .before .tag .given .1) (m .pre))
-
-enum-told-2 : tie.Need-enum-told-2
-enum-told-2 c = search needs
-
-enum-known-n : tie.Need-enum-known-n
-enum-known-n c = search needs
 
 add-t12 : tie.Need-add-t12
 add-t12 c =
@@ -60,14 +42,14 @@ pub line-at-spec : {M : Type 1} → statement M
 line-at-spec =
     tie.close
     (tie.spec
-    tag-at-requires
-    enum-told
-    enum-known-tag
-    name-length-requires
+    (λ c κs. search needs)
+    (λ c. search needs)
+    (λ c. search needs)
+    (λ c κs. search needs)
     add-argument-after
     argument-after-requires
-    enum-told-2
-    enum-known-n
+    (λ c. search needs)
+    (λ c. search needs)
     add-t12
     returns
     returns-2

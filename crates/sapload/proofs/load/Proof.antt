@@ -7,22 +7,10 @@ use borrow.Author.Needs.{needs}
 use Rattle.sapload.proofs.load.Statement.{statement}
 use Rattle.sapload.proofs.load.Tie as tie
 
-unplaced-requires : tie.Need-unplaced-requires
-unplaced-requires c κs = search needs
-
 returns : tie.Need-returns
 returns c =
     let a = c .before .before .before .before .args in
     rw (c .unplaced .ensures) (wrong-size (now (a .file)) (now (a .memory)) (c .before .if1 .taken))
-
-read-requires : tie.Need-read-requires
-read-requires c κs = search needs
-
-enum-known-x : tie.Need-enum-known-x
-enum-known-x c = search needs
-
-enum-known-h : tie.Need-enum-known-h
-enum-known-h c = search needs
 
 put-blocks-requires : tie.Need-put-blocks-requires
 put-blocks-requires c κs =
@@ -36,9 +24,6 @@ returns-2 c =
     let right = c .before .before .before .before .if1 .left in
     load-refused (now (a .file)) (now (a .memory)) right _ _ (sym (ap outcomeOfSap (c .before .x .given .1)) ∙ c .before .before .before .read .ensures)
 
-same-length : tie.Need-same-length
-same-length c = search needs
-
 returns-3 : tie.Need-returns-3
 returns-3 c =
     let a = c .before .before .before .before .before .before .before .before .before .before .before .args in
@@ -49,12 +34,12 @@ pub load-spec : {M : Type 1} → statement M
 load-spec =
     tie.close
     (tie.spec
-    unplaced-requires
+    (λ c κs. search needs)
     returns
-    read-requires
-    enum-known-x
-    enum-known-h
+    (λ c κs. search needs)
+    (λ c. search needs)
+    (λ c. search needs)
     put-blocks-requires
     returns-2
-    same-length
+    (λ c. search needs)
     returns-3)

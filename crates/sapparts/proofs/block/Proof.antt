@@ -7,18 +7,6 @@ use borrow.Author.Needs.{needs}
 use Rattle.sapparts.proofs.block.Statement.{statement}
 use Rattle.sapparts.proofs.block.Tie as tie
 
-test-requires : tie.Need-test-requires
-test-requires c κs = search needs
-
-enum-known-x : tie.Need-enum-known-x
-enum-known-x c = search needs
-
-enum-known-b : tie.Need-enum-known-b
-enum-known-b c = search needs
-
-block-of-requires : tie.Need-block-of-requires
-block-of-requires c κs = search needs
-
 returns : tie.Need-returns
 returns c = block-refused (now (c .before .before .before .before .before .args .file)) 0 _ _ _ (ap outcomeOfTested (sym (c .before .x .given .1)) ∙ c .before .before .before .test .ensures)
 
@@ -28,4 +16,4 @@ returns-2 c = c .block-of .ensures ∙ block-given (now (c .before .before .befo
 pub block-spec : {M : Type 1} → statement M
 block-spec =
     tie.close
-    (tie.spec test-requires enum-known-x enum-known-b block-of-requires returns returns-2)
+    (tie.spec (λ c κs. search needs) (λ c. search needs) (λ c. search needs) (λ c κs. search needs) returns returns-2)

@@ -3,12 +3,6 @@ use borrow.Author.Needs.{needs}
 use Rattle.sapparts.proofs.block_of.Statement.{statement}
 use Rattle.sapparts.proofs.block_of.Tie as tie
 
-enum-told : tie.Need-enum-told
-enum-told c = search needs
-
-enum-known-b : tie.Need-enum-known-b
-enum-known-b c = search needs
-
 returns : tie.Need-returns
 returns c = rw (c .enum-told .given .1)
 
@@ -16,4 +10,4 @@ returns-2 : tie.Need-returns-2
 returns-2 c = rw (c .before .b .given .1)
 
 pub block-of-spec : {M : Type 1} → statement M
-block-of-spec = tie.close (tie.spec enum-told enum-known-b returns returns-2)
+block-of-spec = tie.close (tie.spec (λ c. search needs) (λ c. search needs) returns returns-2)

@@ -7,26 +7,8 @@ use borrow.Author.Needs.{needs}
 use Rattle.saptext.proofs.entry_at.Statement.{statement}
 use Rattle.saptext.proofs.entry_at.Tie as tie
 
-line-at-requires : tie.Need-line-at-requires
-line-at-requires c κs = search needs
-
-enum-told : tie.Need-enum-told
-enum-told c = search needs
-
-enum-known-tag : tie.Need-enum-known-tag
-enum-known-tag c = search needs
-
-name-length-requires : tie.Need-name-length-requires
-name-length-requires c κs = search needs
-
-number-of-requires : tie.Need-number-of-requires
-number-of-requires c κs = search needs
-
 add-stands-at : tie.Need-add-stands-at
 add-stands-at c = omega (arith, c .before .before .before .before .before .before .before .good .0 .1, line-inside (now (c .before .before .before .before .before .before .before .args .file)) (c .before .before .before .before .before .before .before .args .at) _ _ _ (sym (c .before .before .before .before .before .line-at .ensures) ∙ c .before .before .before .tag .given .1) (c .before .before .before .before .before .before .before .pre) .1)
-
-slice-aggregate-stands-at : tie.Need-slice-aggregate-stands-at
-slice-aggregate-stands-at c = search needs
 
 stands-at-requires : tie.Need-stands-at-requires
 stands-at-requires c κs = omega (arith, c .before .before .before .before .before .before .before .before .good .0 .1, line-inside (now (c .before .before .before .before .before .before .before .before .args .file)) (c .before .before .before .before .before .before .before .before .args .at) _ _ _ (sym (c .before .before .before .before .before .before .line-at .ensures) ∙ c .before .before .before .before .tag .given .1) (c .before .before .before .before .before .before .before .before .pre) .1)
@@ -56,13 +38,13 @@ pub entry-at-spec : {M : Type 1} → statement M
 entry-at-spec =
     tie.close
     (tie.spec
-    line-at-requires
-    enum-told
-    enum-known-tag
-    name-length-requires
-    number-of-requires
+    (λ c κs. search needs)
+    (λ c. search needs)
+    (λ c. search needs)
+    (λ c κs. search needs)
+    (λ c κs. search needs)
     add-stands-at
-    slice-aggregate-stands-at
+    (λ c. search needs)
     stands-at-requires
     add-t16
     add-t17

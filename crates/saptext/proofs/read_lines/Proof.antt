@@ -18,26 +18,14 @@ abbrev μ-loop : tie.MeasureT-loop
 loop-holds : tie.Need-loop-holds Inv-loop μ-loop
 loop-holds c = start _ _
 
-is-marker-requires : tie.Need-is-marker-requires Inv-loop μ-loop
-is-marker-requires c κs = search needs
-
 returns : tie.Need-returns Inv-loop μ-loop
 returns c = end-marked (c .before .before .before .loop .inv) (sym (c .before .is-marker .ensures) ∙ c .if1 .taken)
 
 entry-at-requires : tie.Need-entry-at-requires Inv-loop μ-loop
 entry-at-requires c κs = c .before .before .loop-test .taken
 
-enum-told : tie.Need-enum-told Inv-loop μ-loop
-enum-told c = search needs
-
-spoilt-lines-requires : tie.Need-spoilt-lines-requires Inv-loop μ-loop
-spoilt-lines-requires c κs = search needs
-
 returns-2 : tie.Need-returns-2 Inv-loop μ-loop
 returns-2 c = end-bad (c .before .before .before .before .before .before .before .loop .inv) (sym (c .before .before .before .before .before .is-marker .ensures) ∙ c .before .before .before .before .if1 .left) _ (c .spoilt-lines .ensures) (sym (c .before .before .before .entry-at .ensures) ∙ c .before .enum-told .given .1)
-
-enum-known-number : tie.Need-enum-known-number Inv-loop μ-loop
-enum-known-number c = search needs
 
 mul-places : tie.Need-mul-places Inv-loop μ-loop
 mul-places c = omega (arith, entry-facts _ _ _ _ _ _ (c .before .before .before .before .before .before .before .before .loop-test .taken) (sym (c .before .before .before .before .before .entry-at .ensures) ∙ c .before .before .before .number .given .1) .0)
@@ -75,9 +63,6 @@ mul-if4 c = omega (arith, entry-facts _ _ _ _ _ _ (c .before .before .before .be
 array-read-if4 : tie.Need-array-read-if4 Inv-loop μ-loop
 array-read-if4 c = entry-facts _ _ _ _ _ _ (c .before .before .before .before .before .before .before .loop-test .taken) (sym (c .before .before .before .before .entry-at .ensures) ∙ c .before .before .number .given .1) .0
 
-spoilt-lines-requires-2 : tie.Need-spoilt-lines-requires-2 Inv-loop μ-loop
-spoilt-lines-requires-2 c κs = search needs
-
 returns-3 : tie.Need-returns-3 Inv-loop μ-loop
 returns-3 c = end-twice (c .before .before .before .before .before .before .before .before .before .before .loop .inv) (sym (c .before .before .before .before .before .before .before .before .is-marker .ensures) ∙ c .before .before .before .before .before .before .before .if1 .left) _ _ _ _ (c .before .before .before .before .before .before .before .before .before .loop-test .taken) (sym (c .before .before .before .before .before .before .entry-at .ensures) ∙ c .before .before .before .before .number .given .1) _ (c .spoilt-lines2 .ensures) (c .before .before .if2 .left) (c .before .if4 .taken)
 
@@ -99,9 +84,6 @@ loop-less-3 c = omega (arith, entry-facts _ _ _ _ _ _ (c .before .before .before
 loop-again-3 : tie.Need-loop-again-3 Inv-loop μ-loop
 loop-again-3 c = go-tag (c .before .before .before .before .before .before .before .before .before .loop .inv) (sym (c .before .before .before .before .before .before .before .is-marker .ensures) ∙ c .before .before .before .before .before .before .if1 .left) _ _ _ _ (c .before .before .before .before .before .before .before .before .loop-test .taken) (sym (c .before .before .before .before .before .entry-at .ensures) ∙ c .before .before .before .number .given .1) (c .before .if2 .left) (c .if4 .left)
 
-spoilt-lines-requires-3 : tie.Need-spoilt-lines-requires-3 Inv-loop μ-loop
-spoilt-lines-requires-3 c κs = search needs
-
 returns-4 : tie.Need-returns-4 Inv-loop μ-loop
 returns-4 c = end-past (c .before .before .loop .inv) _ (c .spoilt-lines3 .ensures) (c .before .loop-test .left)
 
@@ -112,13 +94,13 @@ read-lines-spec =
     Inv-loop
     μ-loop
     loop-holds
-    is-marker-requires
+    (λ c κs. search needs)
     returns
     entry-at-requires
-    enum-told
-    spoilt-lines-requires
+    (λ c. search needs)
+    (λ c κs. search needs)
     returns-2
-    enum-known-number
+    (λ c. search needs)
     mul-places
     array-write-places
     mul-values
@@ -131,7 +113,7 @@ read-lines-spec =
     loop-again-2
     mul-if4
     array-read-if4
-    spoilt-lines-requires-2
+    (λ c κs. search needs)
     returns-3
     mul-places-2
     array-write-places-2
@@ -139,5 +121,5 @@ read-lines-spec =
     array-write-values-2
     loop-less-3
     loop-again-3
-    spoilt-lines-requires-3
+    (λ c κs. search needs)
     returns-4)

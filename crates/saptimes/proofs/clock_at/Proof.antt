@@ -7,23 +7,14 @@ use borrow.Author.Needs.{needs}
 use Rattle.saptimes.proofs.clock_at.Statement.{statement}
 use Rattle.saptimes.proofs.clock_at.Tie as tie
 
-digits-at-requires : tie.Need-digits-at-requires
-digits-at-requires c κs = search needs
-
 add-byte-at : tie.Need-add-byte-at
 add-byte-at c = let m = c .before .before in omega (arith, m .pre, m .good .0 .1, digits-inside 10 (now (m .args .file)) (m .args .at) _ (c .digits-at .ensures))
-
-byte-at-requires : tie.Need-byte-at-requires
-byte-at-requires c κs = search needs
 
 add-digits-at : tie.Need-add-digits-at
 add-digits-at c = let m = c .before .before .before in omega (arith, m .good .0 .1, digits-inside 10 (now (m .args .file)) (m .args .at) _ (c .before .digits-at .ensures))
 
 add-digits-at-2 : tie.Need-add-digits-at-2
 add-digits-at-2 c = let m = c .before .before .before in omega (arith, m .pre, m .good .0 .1, digits-inside 10 (now (m .args .file)) (m .args .at) _ (c .before .digits-at .ensures))
-
-digits-at-requires-2 : tie.Need-digits-at-requires-2
-digits-at-requires-2 c κs = search needs
 
 add-t20 : tie.Need-add-t20
 add-t20 c = let m = c .before .before .before .before .before in omega (arith, m .good .0 .1, digits-inside 10 (now (m .args .file)) (m .args .at) _ (c .before .before .before .digits-at .ensures))
@@ -54,12 +45,12 @@ pub clock-at-spec : {M : Type 1} → statement M
 clock-at-spec =
     tie.close
     (tie.spec
-    digits-at-requires
+    (λ c κs. search needs)
     add-byte-at
-    byte-at-requires
+    (λ c κs. search needs)
     add-digits-at
     add-digits-at-2
-    digits-at-requires-2
+    (λ c κs. search needs)
     add-t20
     add-t21
     mul-t22

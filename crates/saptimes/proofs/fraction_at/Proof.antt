@@ -11,25 +11,13 @@ use borrow.Author.Needs.{needs}
 use Rattle.saptimes.proofs.fraction_at.Statement.{statement}
 use Rattle.saptimes.proofs.fraction_at.Tie as tie
 
-byte-at-requires : tie.Need-byte-at-requires
-byte-at-requires c κs = search needs
-
 returns : tie.Need-returns
 returns c =
     let a = c .before .before .before .args in
     rw (byte-here (now (a .file)) (a .at), ne-eqb _ _ (λ e. c .if1 .taken (c .before .byte-at .ensures ∙ e)))
 
-add-digits-at : tie.Need-add-digits-at
-add-digits-at c = search needs
-
-digits-at-requires : tie.Need-digits-at-requires
-digits-at-requires c κs = search needs
-
 add-t12 : tie.Need-add-t12
 add-t12 c = let m = c .before .before .before .before .before in omega (arith, m .good .0 .1, digits-inside 10 (now (m .args .file)) (m .args .at + 1) _ (c .before .digits-at .ensures))
-
-unit-of-requires : tie.Need-unit-of-requires
-unit-of-requires c κs = search needs
 
 mul-t14 : tie.Need-mul-t14
 mul-t14 c = omega (arith, product-fits 10 _ _ _ (c .before .before .digits-at .ensures) (c .unit-of .ensures))
@@ -48,12 +36,12 @@ pub fraction-at-spec : {M : Type 1} → statement M
 fraction-at-spec =
     tie.close
     (tie.spec
-    byte-at-requires
+    (λ c κs. search needs)
     returns
-    add-digits-at
-    digits-at-requires
+    (λ c. search needs)
+    (λ c κs. search needs)
     add-t12
-    unit-of-requires
+    (λ c κs. search needs)
     mul-t14
     returns-2
     returns-3)

@@ -7,26 +7,11 @@ use borrow.Author.Needs.{needs}
 use Rattle.saptimes.proofs.time_at.Statement.{statement}
 use Rattle.saptimes.proofs.time_at.Tie as tie
 
-clock-at-requires : tie.Need-clock-at-requires
-clock-at-requires c κs = search needs
-
-enum-told : tie.Need-enum-told
-enum-told c = search needs
-
-enum-known-len : tie.Need-enum-known-len
-enum-known-len c = search needs
-
 add-fraction-at : tie.Need-add-fraction-at
 add-fraction-at c = omega (arith, clock-fits (now (c .before .before .before .before .before .args .file)) (c .before .before .before .before .before .args .at) _ _ (sym (c .before .before .before .clock-at .ensures) ∙ c .before .len .given .1) (omega (arith, c .before .before .before .before .before .good .0 .1)) (c .before .before .before .before .before .pre) .0)
 
 fraction-at-requires : tie.Need-fraction-at-requires
 fraction-at-requires c κs = clock-fits (now (c .before .before .before .before .before .args .file)) (c .before .before .before .before .before .args .at) _ _ (sym (c .before .before .before .clock-at .ensures) ∙ c .before .len .given .1) (omega (arith, c .before .before .before .before .before .good .0 .1)) (c .before .before .before .before .before .pre) .0
-
-enum-told-2 : tie.Need-enum-told-2
-enum-told-2 c = search needs
-
-enum-known-n : tie.Need-enum-known-n
-enum-known-n c = search needs
 
 add-looped-at : tie.Need-add-looped-at
 add-looped-at c = omega (arith, clock-fits (now (c .before .before .before .before .before .before .before .before .before .args .file)) (c .before .before .before .before .before .before .before .before .before .args .at) _ _ (sym (c .before .before .before .before .before .before .before .clock-at .ensures) ∙ c .before .before .before .before .before .len .given .1) (omega (arith, c .before .before .before .before .before .before .before .before .before .good .0 .1)) (c .before .before .before .before .before .before .before .before .before .pre) .0)
@@ -59,13 +44,13 @@ pub time-at-spec : {M : Type 1} → statement M
 time-at-spec =
     tie.close
     (tie.spec
-    clock-at-requires
-    enum-told
-    enum-known-len
+    (λ c κs. search needs)
+    (λ c. search needs)
+    (λ c. search needs)
     add-fraction-at
     fraction-at-requires
-    enum-told-2
-    enum-known-n
+    (λ c. search needs)
+    (λ c. search needs)
     add-looped-at
     add-looped-at-2
     add-looped-at-3
