@@ -1,13 +1,15 @@
--- Source 002, 'Part One - Text Header': the characters of a SAP header, and what stands at the front of bytes.
+-- Source 002, 'Part One - Text Header': the characters of a SAP header, and what stands at the front of
+-- bytes.
 -- digitValue        0-9 mean 0 to 9 and A-F 10 to 15; any other byte is no digit, and has 16
 -- isDigit           a digit of a base: 10 or 16
--- isTextCharacter   'characters with ASCII codes from space to underscore plus all lowercase letters plus the pipe
---                   character', and no quote (house)
+-- isTextCharacter   'characters with ASCII codes from space to underscore plus all lowercase letters plus the
+--                   pipe character', and no quote (house)
 -- leading, rest     the bytes before the first that does not pass a test, and the bytes from that one on
 -- begins            the first byte is a given one, not 0
 -- stands            the bytes begin with those of a word, which has no 0 in it
 -- numberFrom, numberOf   the number that digits of a base mean
--- most, digitsOf    how many digits stand at the front of bytes, and their number, or `most` where it is greater
+-- most, digitsOf    how many digits stand at the front of bytes, and their number, or `most` where it is
+--                   greater
 use Prim.Native.Nat.{ℕ, _+_, _-_, _*_, min}
 use mathlib.Core.Bool.{Bool, true, cond, not, _&&_, _||_}
 use mathlib.Core.List.{List, [], _∷_}

@@ -1,5 +1,6 @@
--- What stands at the front of a line is the same whether the line is looked at by itself or in its file, where a
--- byte that closes it and other bytes follow. `a` is the line, `c` the byte that closes it, `t` what follows.
+-- What stands at the front of a line is the same whether the line is looked at by itself or in its file,
+-- where a byte that closes it and other bytes follow. `a` is the line, `c` the byte that closes it, `t` what
+-- follows.
 -- byte-here, byte-later          a byte by its place
 -- leading-length                 the leading bytes are at most as many as the bytes
 -- leading-stop, rest-stop        where c does not pass the test
@@ -27,7 +28,7 @@ use Rattle.characters.specs.Characters.{digitValue, isDigit, leading, re
 pub byte-here : (f : List ℕ) (at : ℕ) → getD (drop at f) 0 0 ≡ getD f at 0
 byte-here f at = getD-drop at f 0 0 ∙ ap (λ (k : ℕ). getD f k 0) (omega arith)
 
--- So it is from a place that is found from another on.
+-- The first byte n bytes after a place is the byte at that place plus n.
 pub byte-later : (f : List ℕ) (at n : ℕ) → getD (drop n (drop at f)) 0 0 ≡ getD f (at + n) 0
 byte-later f at n = rw (drop-drop n at f) (byte-here f (at + n))
 
@@ -52,7 +53,8 @@ module _ (c : ℕ) (t : List ℕ) where
   pub rest-stop : (p : ℕ → Bool) → p c ≡ false → (a : List ℕ) → rest p (a ++ c ∷ t) ≡ rest p a ++ c ∷ t
   rest-stop p e a = rw (leading-stop p e a) (drop-stop (length (leading p a)) a (leading-length p a))
 
-  -- A line begins with a byte in its file as by itself, where that byte is neither 0 nor the one that closes it.
+  -- A line begins with a byte in its file as by itself, where that byte is neither 0 nor the one that closes
+  -- it.
   pub begins-stop : (b : ℕ) → eqb c b ≡ false → eqb 0 b ≡ false → (a : List ℕ) → begins b (a ++ c ∷ t) ≡ begins b a
   begins-stop b e z [] = rw (e, z)
   begins-stop b e z (x ∷ xs) = refl
@@ -62,7 +64,8 @@ module _ (c : ℕ) (t : List ℕ) where
   Apart [] = Unit
   Apart (b ∷ bs) = (eqb c b ≡ false) × (eqb 0 b ≡ false) × Apart bs
 
-  -- A word stands at the front of a line in its file as by itself, where no byte of it is 0 or closes the line.
+  -- A word stands at the front of a line in its file as by itself, where no byte of it is 0 or closes the
+  -- line.
   pub stands-stop : (w : List ℕ) → Apart w → (a : List ℕ) → stands w (a ++ c ∷ t) ≡ stands w a
   unfolding stands
   stands-stop [] h a = refl

@@ -1,12 +1,12 @@
-// Characters in lent bytes: the digits, the text and the words that stand at a place. Each byte is looked at
-// once. A place past the end has no byte.
+// Characters in lent bytes: the digits, the text and the words that stand at a place, each found in one pass.
+// A place past the end has no byte.
 ghost use mathlib.Core.Path.{_≡_};
 ghost use Prim.Native.Nat.{_<_, _≤_, _^_, min};
 ghost use lib.ListN.{length, drop};
 ghost use Rattle.characters.specs.Characters.{digitValue, isTextCharacter, leading, stands, digitsOf};
 
 // Greater than every number that a caller compares with; a greater number is given as this one.
-const MOST: u32 = 0xFFFFFF;
+pub const MOST: u32 = 0xFFFFFF;
 
 // How many digits stand at a place, and their number, or MOST where it is greater.
 pub struct Digits {

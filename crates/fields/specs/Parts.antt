@@ -3,8 +3,12 @@
 -- before, beforeZero   'cut before the first zero among them', and so before any mark, byte by byte with
 --                      unlessMark
 -- front        numbers in the first cells of a list, as many as fit, and the cells after them as they stood
+-- byteText     a text as bytes
 -- put          the bytes p in the place of those from a on, 'every cell but the payload's as it stood'
 use Prim.Native.Nat.{ℕ, _+_, min}
+use Prim.Native.String.{String}
+use Prim.Native.String as string
+use Prim.Native.Char.{code}
 use mathlib.Core.Bool.{Bool, true, false}
 use mathlib.Core.List.{List, [], _∷_, _++_}
 use lib.ListN.{length, take, drop}
@@ -30,3 +34,7 @@ put m a p = take a m ++ p ++ drop (a + length p) m
 
 abbrev pub front : List ℕ → List ℕ → List ℕ
 front numbers cells = take (min (length numbers) (length cells)) numbers ++ drop (min (length numbers) (length cells)) cells
+
+abbrev pub byteText : String → List ℕ
+byteText string.[] = []
+byteText (string._∷_ c s) = code c ∷ byteText s

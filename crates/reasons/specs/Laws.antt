@@ -18,7 +18,8 @@ use Rattle.logic.specs.Truth.{neither}
 use Rattle.logic.specs.Every.{all-left, all-right, each, each-at}
 use Rattle.refusals.specs.Numbers.{Reason, numberOf}
 use Rattle.refusals.specs.Numbers.Reason.{tooShort, magic, version, dataOffset, rsidReserved, songs, reservedBits, musPayload, noPayload, pastMemory, rsidLoad, rsidInit, freePages, musShort, musPastMemory, voiceLength, voicesPastFile, textLines, bytesAfterText, unassignedPair, valueRange, hltMisplaced, structure, hedZero, tooDeep, tooLong, memorySize, voiceNumber, listLengths, noPair, noSuchSong, sapFirstLine, sapLine, sapTags, sapBlock}
-use Rattle.reasons.specs.Phrases.{phraseOf, table, byteText, found, phraseAt}
+use Rattle.reasons.specs.Phrases.{phraseOf, table, found, phraseAt}
+use Rattle.fields.specs.Parts.{byteText}
 
 -- The phrase of a reason's number is the phrase of that reason, as bytes.
 pub phrase-at : (r : Reason) → phraseAt (numberOf r) ≡ byteText (phraseOf r)

@@ -1,15 +1,13 @@
 -- Document 01, 'What comes back', and document 02 (i): the reason for each number, in words for a person.
 -- phraseOf          a phrase for each line of the table
 -- table             the table's lines
--- byteText          a text as bytes
 -- found, phraseAt   the phrase of a number; nothing where the table has no such number
 use Prim.Native.Nat.{ℕ}
 use Prim.Native.String.{String}
-use Prim.Native.String as string
-use Prim.Native.Char.{code}
 use mathlib.Core.List.{List, [], _∷_}
 use mathlib.Core.Bool.{cond}
 use lib.Dec.{eqb}
+use Rattle.fields.specs.Parts.{byteText}
 use Rattle.refusals.specs.Numbers.{Reason, numberOf}
 use Rattle.refusals.specs.Numbers.Reason.{tooShort, magic, version, dataOffset, rsidReserved, songs, reservedBits, musPayload, noPayload, pastMemory, rsidLoad, rsidInit, freePages, musShort, musPastMemory, voiceLength, voicesPastFile, textLines, bytesAfterText, unassignedPair, valueRange, hltMisplaced, structure, hedZero, tooDeep, tooLong, memorySize, voiceNumber, listLengths, noPair, noSuchSong, sapFirstLine, sapLine, sapTags, sapBlock}
 
@@ -88,10 +86,6 @@ table =
     ∷ sapTags
     ∷ sapBlock
     ∷ []
-
-abbrev pub byteText : String → List ℕ
-byteText string.[] = []
-byteText (string._∷_ c s) = code c ∷ byteText s
 
 abbrev pub found : List Reason → ℕ → List ℕ
 found [] n = []

@@ -1,5 +1,5 @@
--- Document 02 (i): what reading a SAP file comes back with. 'Refusals: 51 first line, then 52 a bad line .. or no FF FF, 53
--- tags against type .. or against SONGS, 54 a bad, cut or missing block; all with place 0'.
+-- Document 02 (i): what reading a SAP file comes back with. 'Refusals: 51 first line, then 52 a bad line ..
+-- or no FF FF, 53 tags against type .. or against SONGS, 54 a bad, cut or missing block; all with place 0'.
 -- linesIn, endIn      the lines of a file's header after its first, and where FF FF stands
 -- states              what each tag states, by its name alone
 -- blocksAfter         the blocks of a file
@@ -7,7 +7,8 @@
 -- headerIn            what a file says of itself
 -- outcomeOfSap        the paper's number and values for each case of an answer
 -- sapOutcome          the first of 51 to 54 that applies, else the header
--- Passing, outcomeOfTested, testedOutcome   the same with the time of a song and a block by its number
+-- Passing, passing, momentFor, outcomeOfTested, testedOutcome   the same with the time of a song and a block
+--                 by its number
 use Prim.Native.Nat.{ℕ}
 use mathlib.Core.Bool.{not}
 use mathlib.Core.List.{List, [], _∷_}
@@ -23,8 +24,7 @@ use Rattle.sapblocks.specs.Blocks.{Blocks, blocksIn, areWhole, listed}
 use Rattle.sapblocks.specs.Answers.{numbered}
 use Rattle.saptext.specs.Text.{StoredLine, Text, textIn}
 use Rattle.saptext.specs.Text.Text.{unended, ended}
-use Rattle.saptext.specs.Stated.{countOf, Stated, stated, timeOf}
-use Rattle.saptext.specs.Reading.{badText}
+use Rattle.saptext.specs.Stated.{countOf, Stated, stated, timeOf, badText}
 use Rattle.saprules.specs.Against.{against}
 use Rattle.sapheader.specs.declared.Header.{Header}
 use Rattle.sapheader.specs.Header.{headerFor}

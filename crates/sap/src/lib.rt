@@ -71,7 +71,7 @@ pub fn test(file: &[u8], song: u64, block: u64) -> Tested
             let header = sapheader::header_of(x, count);
             let places = x.places;
             let values = x.values;
-            let time = moment_for(places[13], values[13]);
+            let time = moment_for(places[saptags::TIME], values[saptags::TIME]);
             Tested::Passed(header, time, wanted)
         }
     }

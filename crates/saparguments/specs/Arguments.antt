@@ -1,11 +1,12 @@
--- Source 002, 'Part One - Text Header', and document 02 (i): the argument of each kind of tag, at the front of bytes.
--- An argument that fits has a length in bytes and a value.
+-- Source 002, 'Part One - Text Header', and document 02 (i): the argument of each kind of tag, at the front
+-- of bytes. An argument that fits has a length in bytes and a value.
 -- unpadded     a decimal 'without leading zeros' (house): `0` has none, `00` and `01` have
--- decimalAt    'decimals', from a least to a greatest number: the value is the number
--- addressAt    'exactly four uppercase hex digits': the value is the address
--- covoxAt      'the only possible address is D600'
+-- decimalOf, decimalAt    'decimals', from a least to a greatest number: the value is the number
+-- addressOf, addressAt    'exactly four uppercase hex digits': the value is the address
+-- covoxOf, covoxAt   'the only possible address is D600'
 -- isType, letterAt   'one uppercase letter: B, C, D or S', or R: the value is the letter
--- textAt       'wrapped in doublequotes', 'at most 120 allowed characters without inner quotes': the value is how many
+-- textOf, textAt   'wrapped in doublequotes', 'at most 120 allowed characters without inner quotes': the
+--                  value is how many
 use Prim.Native.Nat.{ℕ, _+_}
 use mathlib.Core.Bool.{Bool, cond, not, _&&_, _||_}
 use mathlib.Core.List.{List}

@@ -3,7 +3,7 @@
 -- Within     an argument that fits lies within the bytes
 -- good-if, begins-long, digits-within   what a test shows, and how many bytes there are
 -- decimal-stop .. text-stop, decimal-within .. text-within   so for each kind
--- AtMost     the value of an argument is at most so great
+-- AtMost     the value of an argument is at most a number
 -- decimal-most .. text-most   so for each kind; decimal-least, letter-type   what else is known of two
 use Prim.Native.Nat.{ℕ, _+_, _^_, _-_, _<_, _≤_}
 use mathlib.Core.Path.{_≡_, refl, subst}
@@ -126,7 +126,7 @@ address-most s n v e =
     let g = good-if (eqb (d .len) 4) (d .len) (d .value) n v e in
     omega (arith, g .2, subst (λ (k : ℕ). d .value < 16 ^ k) (eqb-true (d .len) 4 (g .0)) (digits-below 16 s))
 
--- COVOX's address is D600.
+-- COVOX's address is at most D600.
 pub covox-most : AtMost 0xD600 covoxAt
 covox-most s n v e =
     let d = digitsOf 16 s in

@@ -1,4 +1,4 @@
-// The arguments of a SAP header's tags, each at a place of lent bytes. Each byte is looked at once.
+// The arguments of a SAP header's tags, each at a place of lent bytes. Each is found in one pass.
 ghost use mathlib.Core.Path.{_≡_};
 ghost use Prim.Native.Nat.{_+_, _<_, _^_};
 ghost use lib.ListN.{drop};

@@ -9,7 +9,8 @@
 -- Blocks          the blocks of the data, or that one of them is bad or missing
 -- withBlock       a block and the blocks after it
 -- blocksFrom      the blocks of bytes, from an offset on: 'FF FF where a block would start is skipped, each
---                 time, and a block must follow'; the first number is how many bytes are skipped first
+--                 time, and a block must follow' (`must`); the first number is how many bytes are skipped
+-- first
 -- blocksIn        the blocks of a file, whose data begin at an offset
 -- areWhole        none of them is bad or missing
 -- listed          they, where they are whole

@@ -1,9 +1,9 @@
 -- Document 02 (i) and source 002: what an accepted file says of itself, by what its tags state.
 -- textFor                AUTHOR, NAME, DATE: where the text lies, 'without its quotes'
--- rateFor, holds         FASTPLAY as stated, and as it holds: '312 scanlines for PAL', '262 for NTSC', and for type S 'the
---                        default .. is 78'
--- routineFor, playerWith, playerFor   'each kind of player holds the addresses that kind needs'; PLAYER is 'free for D, read and
---                        dropped for S'
+-- rateFor, holds         FASTPLAY as stated, and as it holds: '312 scanlines for PAL', '262 for NTSC', and
+--                        for type S 'the default .. is 78'
+-- routineFor, playerWith, playerFor   'each kind of player holds the addresses that kind needs'; PLAYER is
+--                 'free for D, read and dropped for S'
 -- headerFor              the header
 use Prim.Native.Nat.{ℕ}
 use mathlib.Core.Bool.{Bool, cond}

@@ -165,11 +165,11 @@ fn player_of(x: Lines) -> Player
 {
     let places = x.places;
     let values = x.values;
-    let letter = saprules::value_or(places[7], values[7], 0);
-    let init = address_for(places[9], values[9]);
-    let music = address_for(places[10], values[10]);
-    let player = address_for(places[11], values[11]);
-    let routine = routine_for(places[11], values[11]);
+    let letter = saprules::value_or(places[saptags::TYPE], values[saptags::TYPE], 0);
+    let init = address_for(places[saptags::INIT], values[saptags::INIT]);
+    let music = address_for(places[saptags::MUSIC], values[saptags::MUSIC]);
+    let player = address_for(places[saptags::PLAYER], values[saptags::PLAYER]);
+    let routine = routine_for(places[saptags::PLAYER], values[saptags::PLAYER]);
     player_with(letter, init, music, player, routine)
 }
 
@@ -181,22 +181,27 @@ pub fn header_of(x: Lines, blocks: usize) -> Header
     let player = player_of(x);
     let places = x.places;
     let values = x.values;
-    let ntsc = places[6] != 0;
-    let letter = saprules::value_or(places[7], values[7], 0);
-    let songs = saprules::value_or(places[3], values[3], 1);
-    let default = saprules::value_or(places[4], values[4], 0);
-    let stated = rate_for(places[8], values[8]);
-    let fastplay = fastplay_for(letter, ntsc, places[8], values[8]);
-    let author = text_for(places[0], values[0]);
-    let name = text_for(places[1], values[1]);
-    let date = text_for(places[2], values[2]);
+    let ntsc = places[saptags::NTSC] != 0;
+    let letter = saprules::value_or(places[saptags::TYPE], values[saptags::TYPE], 0);
+    let songs = saprules::value_or(places[saptags::SONGS], values[saptags::SONGS], 1);
+    let default = saprules::value_or(places[saptags::DEFSONG], values[saptags::DEFSONG], 0);
+    let stated = rate_for(places[saptags::FASTPLAY], values[saptags::FASTPLAY]);
+    let fastplay = fastplay_for(
+        letter,
+        ntsc,
+        places[saptags::FASTPLAY],
+        values[saptags::FASTPLAY],
+    );
+    let author = text_for(places[saptags::AUTHOR], values[saptags::AUTHOR]);
+    let name = text_for(places[saptags::NAME], values[saptags::NAME]);
+    let date = text_for(places[saptags::DATE], values[saptags::DATE]);
     Header {
         player,
         songs,
         default,
-        stereo: places[5] != 0,
+        stereo: places[saptags::STEREO] != 0,
         ntsc,
-        covox: places[12] != 0,
+        covox: places[saptags::COVOX] != 0,
         stated,
         fastplay,
         author,

@@ -1,6 +1,7 @@
--- Two neighbouring lines of a file's header exchanged, not both of them TIME: reading the file comes back with
--- the same but for where texts stand. The lines before the two are any, and so are the bytes after them.
--- outcomeWithoutPlaces   an outcome: a refusal's number and place, or the header but for the places of its texts
+-- Two neighbouring lines of a file's header exchanged, not both of them TIME: reading the file comes back
+-- with the same but for where texts stand. The lines before the two are any, and so are the bytes after them.
+-- outcomeWithoutPlaces   an outcome: a refusal's number and place, or the header but for the places of its
+--                        texts
 -- outcome-exchanged      the law
 -- time-exchanged         of an accepted file: what TIME states for each song is the same
 -- blocks-exchanged       and so are the blocks

@@ -1,6 +1,6 @@
 -- Laws of lines, of each tag.
--- value-stop, argument-stop, line-stop        what stands at the front of a line is the same in its file, where 0D
---                                             follows the line
+-- value-stop, argument-stop, line-stop        what stands at the front of a line is the same in its file,
+--                 where 0D follows the line
 -- value-within, argument-within, line-within  what fits lies within the bytes
 -- mostOf, value-most, line-most               how great the value of a tag's argument can be
 use Prim.Native.Nat.{ℕ, _+_, _≤_}
@@ -43,7 +43,7 @@ value-stop tag.Player = address-stop
 value-stop tag.Covox = covox-stop
 value-stop tag.Time = time-stop
 
--- nothing that fits has no length
+-- what does not fit has no length
 bad-within : (n v : ℕ) → Bad ≡ Good n v → (m : ℕ) → n ≤ m
 bad-within n v e m = absurd (let z : _≡_ {A = ℕ} 0 1 = cc in omega arith)
 
@@ -133,7 +133,7 @@ mostOf tag.Time = 12079999
 bad-most : (n v : ℕ) → Bad ≡ Good n v → (m : ℕ) → v ≤ m
 bad-most n v e m = absurd (let z : _≡_ {A = ℕ} 0 1 = cc in omega arith)
 
--- The value of a tag's argument is at most so great.
+-- The value of a tag's argument is at most what the tag allows.
 pub value-most : (t : Tag) → AtMost (mostOf t) (valueAt t)
 value-most tag.Author = text-most
 value-most tag.Name = text-most
@@ -176,7 +176,7 @@ argument-most t s n v e =
     go Bad q r = bad-most n v r (mostOf t)
     go (Good m w) q r = let is : w ≡ v = cc in omega (arith, value-most t (drop 1 s) m w q)
 
--- The value of a line is at most so great as its tag allows.
+-- The value of a line is at most what its tag allows.
 pub line-most : (s : List ℕ) (t : Tag) (n v : ℕ) → lineAt s ≡ line.Good t n v → v ≤ mostOf t
 unfolding lineAt
 line-most s t n v e = go (tagAt s) e

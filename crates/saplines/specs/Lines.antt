@@ -1,9 +1,10 @@
--- Source 002, 'Part One - Text Header': a line 'consists of an uppercase tag name and an optional argument', 'separated
--- from tag name with a single space'. What stands at the front of bytes:
+-- Source 002, 'Part One - Text Header': a line 'consists of an uppercase tag name and an optional argument',
+-- 'separated from tag name with a single space'. What stands at the front of bytes:
 -- valueAt         the argument of each tag that takes one
 -- alone           STEREO and NTSC: each 'takes no argument'
--- argumentAfter   what follows a tag's name: nothing, or one space and an argument
--- lineAt          a tag, how many bytes its name and its argument have, and the argument's value
+-- spaced, argumentAfter   what follows a tag's name: nothing, or one space and an argument
+-- withArgument, withTag, lineAt   a tag, how many bytes its name and its argument have, and the argument's
+--                                 value
 use Prim.Native.Nat.{ℕ, _+_}
 use mathlib.Core.Bool.{Bool, cond, _||_}
 use mathlib.Core.List.{List}

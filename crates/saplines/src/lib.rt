@@ -1,4 +1,4 @@
-// A line of a SAP header at a place of lent bytes: its tag and its argument. Each byte is looked at once.
+// A line of a SAP header at a place of lent bytes: its tag and its argument. Each is found in one pass.
 ghost use mathlib.Core.Path.{_≡_};
 ghost use Prim.Native.Nat.{_<_, _^_};
 ghost use lib.ListN.{length, drop};
@@ -6,9 +6,6 @@ ghost use Rattle.saplines.specs.Lines.{valueAt, argumentAfter, lineAt};
 use saparguments::Argument;
 use saptags::Named;
 use saptags::Tag;
-
-// Greater than any number of songs: DEFSONG has no greatest number of its own.
-const ANY: u32 = 0xFFFFFF;
 
 // What stands at a place as a line: nothing that fits, or its tag, how many bytes it has, and its argument's
 // value.
@@ -27,7 +24,7 @@ fn value_at(file: &[u8], tag: Tag, at: usize) -> Argument
         Tag::Name => saparguments::text_at(file, at),
         Tag::Date => saparguments::text_at(file, at),
         Tag::Songs => saparguments::decimal_at(file, at, 1, 32),
-        Tag::DefSong => saparguments::decimal_at(file, at, 0, ANY),
+        Tag::DefSong => saparguments::decimal_at(file, at, 0, characters::MOST),
         Tag::Stereo => Argument::Bad,
         Tag::Ntsc => Argument::Bad,
         Tag::Type => saparguments::letter_at(file, at),
@@ -46,7 +43,7 @@ fn argument_after(file: &[u8], tag: Tag, at: usize) -> Argument
     ensures { λ r. ⌜ r ≡ argumentAfter tag (drop at (now (file .entry))) ⌝ }
 {
     let number = saptags::number_of(tag);
-    if (number == 5) | (number == 6) {
+    if (number == saptags::STEREO) | (number == saptags::NTSC) {
         return Argument::Good(0, 1);
     }
     if fields::byte_at(file, at) != 0x20 {

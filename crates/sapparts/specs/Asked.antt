@@ -1,9 +1,11 @@
 -- Document 02 (i) and source 002: what a caller asks of a SAP file by a number: the time of a song, a block.
--- Lasting, lasting   what TIME states for a song: nothing, or how many milliseconds it lasts and whether LOOP follows
+-- Lasting, lasting   what TIME states for a song: nothing, or how many milliseconds it lasts and whether LOOP
+--                    follows
 -- songTests          44, 'no such song': songs are 'zero-based', so song n is there where n is below SONGS
 -- timeOutcome        the file's own refusal, then 44, else what TIME states
 -- outcomeOfTime      the paper's number and values for each case of an answer
--- blockOutcome       the file's own refusal, else the block of a number, from zero, or that there is no such block
+-- blockOutcome       the file's own refusal, else the block of a number, from zero, or that there is no such
+--                    block
 -- outcomeOfBlock     the same of an answer
 use Prim.Native.Nat.{ℕ, _/_, _%_}
 use mathlib.Core.Bool.{Bool}

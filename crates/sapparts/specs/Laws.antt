@@ -1,8 +1,10 @@
 -- Laws of what a caller asks of a SAP file.
 -- time-once, block-once   no two answers have the same outcome
 -- time-file, block-file   a file that is refused is refused so, whatever is asked
--- song-there, song-past   of an accepted file a song has a time, stated or not, exactly where its number is below SONGS
--- block-there             of an accepted file, the block of a number is the one of that number in the file's order
+-- song-there, song-past   of an accepted file a song has a time, stated or not, exactly where its number is
+--                         below SONGS
+-- block-there             of an accepted file, the block of a number is the one of that number in the file's
+--                         order
 use Prim.Native.Nat.{ℕ, _≤_, _<_}
 use mathlib.Core.Path.{_≡_, refl, sym, ap}
 use mathlib.Core.List.{List}

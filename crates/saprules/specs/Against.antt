@@ -1,10 +1,10 @@
--- Document 02 (i), 53: 'tags against type (none, R, missing, barred) or against SONGS'. What a tag states is a place and a
--- value, or that the tag is absent.
+-- Document 02 (i), 53: 'tags against type (none, R, missing, barred) or against SONGS'. What a tag states is
+-- a place and a value, or that the tag is absent.
 -- statesOf                  what a tag states, by its cells in the answer of the code that reads the lines
 -- isStated, valueOr         a tag is there; its value, or another one where it is absent
 -- isB .. isS, otherThanC    the type's letter
 -- typeAgainst               the tags against the type
--- songsOf, defaultOf        'SONGS .. absent 1', 'DEFSONG .. Defaults to zero'
+-- songsOf, defaultOf, letterOf   'SONGS .. absent 1', 'DEFSONG .. Defaults to zero'
 -- songsAgainst              'DEFSONG counts from zero and is below SONGS', 'TIME at most SONGS times'
 -- against                   either
 use Prim.Native.Nat.{ℕ}

@@ -27,9 +27,14 @@ pub fn is_against(x: Lines) -> bool
 {
     let places = x.places;
     let values = x.values;
-    let letter = value_or(places[7], values[7], 0);
-    let songs = value_or(places[3], values[3], 1);
-    let first = value_or(places[4], values[4], 0);
-    let wrong = type_against(letter, places[9] != 0, places[10] != 0, places[11] != 0);
+    let letter = value_or(places[saptags::TYPE], values[saptags::TYPE], 0);
+    let songs = value_or(places[saptags::SONGS], values[saptags::SONGS], 1);
+    let first = value_or(places[saptags::DEFSONG], values[saptags::DEFSONG], 0);
+    let wrong = type_against(
+        letter,
+        places[saptags::INIT] != 0,
+        places[saptags::MUSIC] != 0,
+        places[saptags::PLAYER] != 0,
+    );
     wrong | ((songs <= first) | ((songs as usize) < x.times))
 }

@@ -1,6 +1,5 @@
 -- Source 002, 'Part One - Text Header': the tags of a SAP header, 'an uppercase tag name and an optional
 -- argument'. Document 02 (i): the heading 'SONG' in 002 is a slip, and the name is SONGS.
--- byteText   a text as bytes
 -- nameOf     a tag's name as bytes
 -- tags       all fourteen, in 002's order
 -- indexOf    a tag's number, counted from 0 in that order
@@ -8,20 +7,14 @@
 -- tagIn      the first tag of a list whose name stands at the front of bytes
 -- tagAt      the same of all tags; no name is the beginning of another, so that the order does not count
 use Prim.Native.Nat.{ℕ}
-use Prim.Native.String.{String}
-use Prim.Native.String as string
-use Prim.Native.Char.{code}
 use mathlib.Core.List.{List, [], _∷_}
 use mathlib.Core.Bool.{cond}
+use Rattle.fields.specs.Parts.{byteText}
 use Rattle.characters.specs.Characters.{stands}
 use Rattle.saptags.specs.declared.Tag.{Tag}
 use Rattle.saptags.specs.declared.Tag.the-variants as Tag
 use Rattle.saptags.specs.declared.Named.{Named}
 use Rattle.saptags.specs.declared.Named.the-variants.{Unknown, Known}
-
-abbrev pub byteText : String → List ℕ
-byteText string.[] = []
-byteText (string._∷_ c s) = code c ∷ byteText s
 
 abbrev pub nameOf : Tag → List ℕ
 nameOf Tag.Author = byteText "AUTHOR"

@@ -4,6 +4,35 @@ ghost use Prim.Native.Nat.{_<_, _^_};
 ghost use lib.ListN.{length, drop};
 ghost use Rattle.saptags.specs.Tags.{nameOf, indexOf, tagAt, namedBy};
 
+// The number of each tag, as `number_of` gives it.
+pub const AUTHOR: usize = 0;
+
+pub const NAME: usize = 1;
+
+pub const DATE: usize = 2;
+
+pub const SONGS: usize = 3;
+
+pub const DEFSONG: usize = 4;
+
+pub const STEREO: usize = 5;
+
+pub const NTSC: usize = 6;
+
+pub const TYPE: usize = 7;
+
+pub const FASTPLAY: usize = 8;
+
+pub const INIT: usize = 9;
+
+pub const MUSIC: usize = 10;
+
+pub const PLAYER: usize = 11;
+
+pub const COVOX: usize = 12;
+
+pub const TIME: usize = 13;
+
 // A tag, in source 002's order.
 pub enum Tag {
     Author,

@@ -1,7 +1,7 @@
 -- Laws of what the lines of a header state, and of what reading them gives.
 -- cell-at        a cell by its tag's number
 -- nth-restated   what the line of a tag states is told by its place and its value
--- nth-most       its value is at most so great as the tag allows
+-- nth-most       its value is at most what the tag allows
 -- Known          what is known of lines that were read
 -- read-known     so where reading answers cells
 -- read-spoilt    where it answers none, the lines are bad
@@ -25,8 +25,8 @@ use Rattle.saplines.specs.Laws.{mostOf, line-most}
 use Rattle.saptext.specs.declared.Lines.{Lines}
 use Rattle.saptext.specs.Text.{StoredLine, Text}
 use Rattle.saptext.specs.Text.Text.{unended, ended}
-use Rattle.saptext.specs.Stated.{whole, entryOf, isOf, tagged, countOf, badLines, statedBy, nthOf}
-use Rattle.saptext.specs.Reading.{placeOf, valueOf, cellsOf, counts, stateOf, badText, textRead, linesOf}
+use Rattle.saptext.specs.Stated.{whole, entryOf, isOf, tagged, countOf, badLines, statedBy, nthOf, badText}
+use Rattle.saptext.specs.Reading.{placeOf, valueOf, cellsOf, counts, stateOf, textRead, linesOf}
 
 -- The cell at a tag's number is the tag's.
 pub cell-at : (g : Tag → ℕ) (t : Tag) → getD (cellsOf g) (indexOf t) 0 ≡ g t
@@ -70,7 +70,7 @@ entry-most t from l e = go (lineAt l) refl e
         rw k (omega (arith, line-most l u n v q, ap mostOf same)))
         (λ k. absurd (false≢true (rw k at h)))
 
--- The value that the line of a tag states is at most so great as the tag allows.
+-- The value that the line of a tag states is at most what the tag allows.
 pub nth-most : (t : Tag) (n : ℕ) (ls : List StoredLine) → valueOf (nthOf t n ls) ≤ mostOf t
 unfolding nthOf
 nth-most t n [] = omega arith

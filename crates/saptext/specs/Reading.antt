@@ -1,11 +1,11 @@
 -- What reading the lines of a header gives: each tag's place and value in a cell of its own.
--- Entry, entryAt    what stands at an offset of the file as a line, closed by CR LF (for the contract of the code)
+-- lineEnd, closedAt, entryAt   what stands at an offset of the file as a line, closed by CR LF (for the
+--                              contract of the code)
 -- placeOf, valueOf  the numbers of what a tag states, 0 where it is absent
 -- stateOf           what a tag states, by these numbers
 -- whichOf           which line of a tag counts: the only one, and of TIME the one of the song asked for
 -- cellsOf           a cell for each tag, in the order of source 002
 -- counts            what each tag states
--- badText           52 applies to the lines
 -- TextRead          the cells, how many TIMEs there are and where FF FF stands; or that the lines are bad
 -- textRead          so of lines, for the time of a song
 -- linesOf           what an answer says
@@ -74,11 +74,6 @@ cellsOf g =
 
 abbrev pub counts : ℕ → List StoredLine → Tag → Stated
 counts song ls t = nthOf t (whichOf song t) ls
-
--- 52: 'a bad line (unknown tag, bad argument, tag again) or no FF FF'
-abbrev pub badText : Text → Bool
-badText unended = true
-badText (ended ls end) = badLines ls
 
 pub data TextRead : Type 0 where
   spoilt : TextRead

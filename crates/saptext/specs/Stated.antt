@@ -1,26 +1,31 @@
 -- Document 02 (i): what the lines of a header state, each tag by its name alone.
--- entryOf     what a line says: its tag and the argument's value; or that it is bad: 'unknown tag, bad argument'
--- tagged      a line is of a tag
--- countOf     how many lines are of a tag
+-- whole, entryOf   what a line says: its tag and the argument's value; or that it is bad: 'unknown tag, bad
+--                  argument'
+-- isBad, isOf      a line is bad, or of a tag
+-- tagged      a stored line is of a tag
+-- oneMore, countOf   how many lines are of a tag
 -- anyBad      some line is bad
--- again       'No tag but TIME comes twice'
--- Stated      what a line of a tag states: where a text that it has stands in the file, and its argument's value; or that
---             there is no such line
--- nthOf       the line of a tag by its number, counted from 0
+-- onceTags, anyTwice, again   'No tag but TIME comes twice'
+-- badLines, badText   52: 'a bad line (unknown tag, bad argument, tag again) or no FF FF'
+-- Stated      what a line of a tag states: where a text that it has stands in the file, and its argument's
+--             value; or that there is no such line
+-- statedBy    what a line states
+-- chosen, nthOf   the line of a tag by its number, counted from 0
 -- stated      the line of a tag
 -- timeOf      the TIME of a song, counted from 0
 use Prim.Native.Nat.{ℕ, zero, suc, _+_}
 use mathlib.Core.Bool.{Bool, true, false, cond, _||_}
 use mathlib.Core.List.{List, [], _∷_}
-use lib.ListN.{length}
+use lib.ListN.{length, take}
 use lib.Dec.{ltb, eqb}
 use Rattle.saptags.specs.declared.Tag.{Tag}
 use Rattle.saptags.specs.declared.Tag.the-variants as tag
-use Rattle.saptags.specs.Tags.{nameOf, indexOf}
+use Rattle.saptags.specs.Tags.{nameOf, tags, indexOf}
 use Rattle.saplines.specs.declared.Line.{Line}
 use Rattle.saplines.specs.declared.Line.the-variants.{Bad, Good}
 use Rattle.saplines.specs.Lines.{lineAt}
-use Rattle.saptext.specs.Text.{StoredLine}
+use Rattle.saptext.specs.Text.{StoredLine, Text}
+use Rattle.saptext.specs.Text.Text.{unended, ended}
 
 -- a line that ends where its bytes do
 abbrev pub whole : ℕ → Line → Line
@@ -53,23 +58,9 @@ abbrev pub anyBad : List StoredLine → Bool
 anyBad [] = false
 anyBad (l ∷ ls) = isBad (entryOf (l .bytes)) || anyBad ls
 
--- every tag but TIME
+-- every tag but TIME, which is the last
 abbrev pub onceTags : List Tag
-onceTags =
-    tag.Author
-    ∷ tag.Name
-    ∷ tag.Date
-    ∷ tag.Songs
-    ∷ tag.DefSong
-    ∷ tag.Stereo
-    ∷ tag.Ntsc
-    ∷ tag.Type
-    ∷ tag.FastPlay
-    ∷ tag.Init
-    ∷ tag.Music
-    ∷ tag.Player
-    ∷ tag.Covox
-    ∷ []
+onceTags = take 13 tags
 
 abbrev pub anyTwice : List Tag → List StoredLine → Bool
 anyTwice [] ls = false
@@ -80,6 +71,11 @@ again ls = anyTwice onceTags ls
 
 abbrev pub badLines : List StoredLine → Bool
 badLines ls = anyBad ls || again ls
+
+-- 52: 'a bad line (unknown tag, bad argument, tag again) or no FF FF'
+abbrev pub badText : Text → Bool
+badText unended = true
+badText (ended ls end) = badLines ls
 
 pub data Stated : Type 0 where
   absent : Stated

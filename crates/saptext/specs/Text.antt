@@ -1,10 +1,11 @@
--- Source 002, 'Part One - Text Header', and document 02 (i): 'Lines end CR LF, the first is SAP alone, and the header
--- ends where FF FF stands at a line's start.'
--- Pieces, cut   bytes cut at each CR LF: the piece before the first one, and the pieces after it
+-- Source 002, 'Part One - Text Header', and document 02 (i): 'Lines end CR LF, the first is SAP alone, and
+-- the header ends where FF FF stands at a line's start.'
+-- Pieces, cutAt, cut   bytes cut at each CR LF: the piece before the first one, and the pieces after it
 -- StoredLine    a line: where it begins in the file, and its bytes without the CR LF that closes it
--- Text          the lines before the one that begins with FF FF, and where that one begins; or that there is none
--- textFrom      the lines of pieces, the first of which begins at an offset of the file
--- textIn        the lines of a file, after its first
+-- Text          the lines before the one that begins with FF FF, and where that one begins; or that there is
+--               none
+-- withLine, textFrom   the lines of pieces, the first of which begins at an offset of the file
+-- textOn, textIn   the lines from an offset on, and the lines of a file, after its first
 use Prim.Native.Nat.{ℕ, _+_}
 use mathlib.Core.Bool.{Bool, true, false, cond, _&&_}
 use mathlib.Core.List.{List, [], _∷_}
@@ -17,7 +18,7 @@ pub record Pieces : Type 0 where
   pub first : List ℕ
   pub later : List (List ℕ)
 
--- a byte before pieces: CR before LF ends a piece, and any other byte is the first one's
+-- a byte before pieces: CR before LF ends a piece, and the LF is dropped; any other byte is the first one's
 abbrev pub cutAt : Bool → ℕ → Pieces → Pieces
 cutAt true b p = record { first = []; later = drop 1 (p .first) ∷ p .later }
 cutAt false b p = record { first = b ∷ p .first; later = p .later }

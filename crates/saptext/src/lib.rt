@@ -1,14 +1,11 @@
 // The lines of a SAP header, read in one pass: what each tag states, in a cell of its own.
 ghost use mathlib.Core.Path.{_≡_};
-ghost use mathlib.Core.Bool.{false};
+ghost use mathlib.Core.Bool.{true, false};
 ghost use Prim.Native.Nat.{_<_};
 ghost use lib.ListN.{length};
 ghost use Rattle.saptext.specs.Text.{textIn};
 ghost use Rattle.saptext.specs.Reading.{entryAt, textRead, linesOf};
 use saplines::Line;
-
-// TIME's number among the tags.
-const TIME: usize = 13;
 
 // What stands at a place as a line with the CR LF that closes it: nothing that fits, or its tag's number,
 // where a text that it has stands, its argument's value and where the next line begins.
@@ -18,8 +15,8 @@ pub enum Entry {
 }
 
 // What the lines state. Where they are good (ended), FF FF stands at end; of each tag by its number, places
-// has where a text that it has stands, 0 where the tag is absent, and values its argument's value. Of TIME these
-// are of the song asked for, and times is how many TIMEs there are.
+// has where a text that it has stands, 0 where the tag is absent, and values its argument's value. Of TIME
+// these are of the song asked for, and times is how many TIMEs there are.
 pub struct Lines {
     pub ended: bool,
     pub end: usize,
@@ -38,6 +35,19 @@ fn spoilt_lines() -> Lines
         times: 0,
         places: [0; 14],
         values: [0; 14],
+    }
+}
+
+// Good lines, that FF FF ends at a place.
+fn ended_lines(end: usize, times: usize, places: [usize; 14], values: [u32; 14]) -> Lines
+    ensures { λ r. ⌜ r ≡ record { ended = true; end = end; times = times; places = places; values = values } ⌝ }
+{
+    Lines {
+        ended: true,
+        end,
+        times,
+        places,
+        values,
     }
 }
 
@@ -70,18 +80,12 @@ pub fn read_lines(file: &[u8], song: u64) -> Lines
     let mut at: usize = 5;
     while at < file.len() {
         if sapblocks::is_marker(file, at) {
-            return Lines {
-                ended: true,
-                end: at,
-                times,
-                places,
-                values,
-            };
+            return ended_lines(at, times, places, values);
         }
         match entry_at(file, at) {
             Entry::Bad => return spoilt_lines(),
             Entry::Good(number, place, value, next) => {
-                if number == TIME {
+                if number == saptags::TIME {
                     if times as u64 == song {
                         places[number] = place;
                         values[number] = value;

@@ -33,7 +33,8 @@ unit-small n = cases (eqb n 1) (λ p. rw p (omega arith)) (λ p. cases (eqb n 2)
 pub product-fits : (base : ℕ) (s : List ℕ) (d : Digits) (unit : ℕ) → d ≡ digitsOf base s → unit ≡ thousandths (d .len) → d .value * unit ≤ most * 100
 product-fits base s d unit e u = let small : unit ≤ 100 = omega (arith, u, unit-small (d .len)) in mul-le-mul (digits-small base s d e) small
 
--- minutes and seconds of three reads: the digits of the minutes, the byte after them, and the digits after that
+-- minutes and seconds of three reads: the digits of the minutes, the byte after them, and the digits after
+-- that
 pub clock-read : (f : List ℕ) (at mark : ℕ) (m s : Digits) → m ≡ digitsOf 10 (drop at f) → mark ≡ getD f (at + m .len) 0 → s ≡ digitsOf 10 (drop (at + (m .len + 1)) f)
     → clockWith m s (eqb mark 0x3A) ≡ clockAt (drop at f)
 clock-read f at mark m s e k l =

@@ -1,5 +1,6 @@
 -- Laws of a duration.
--- clock-stop, fraction-stop, time-stop         it is the same in a line as in its file, where 0D follows the line
+-- clock-stop, fraction-stop, time-stop         it is the same in a line as in its file, where 0D follows the
+--                 line
 -- clock-within, fraction-within, time-within   it lies within the bytes
 -- clock-small, fraction-small, time-most       how great its value is
 use Prim.Native.Nat.{ℕ, zero, suc, _+_, _*_, _^_, _-_, _<_, _≤_}

@@ -1,12 +1,12 @@
 -- Source 002, 'TIME': a song's duration, at the front of bytes.
--- clockAt       'one or two digits specifying minutes', 'colon', 'two digits specifying seconds': the value is in
---               seconds
--- thousandths   what one unit of a fraction's last digit is: tenths, hundredths or thousandths of a second, in
---               milliseconds
--- fractionAt    'optionally: decimal point (dot) followed by one to three digits (fraction of a second)': the value is
+-- secondsIn, clockWith, clockAt   'one or two digits specifying minutes', 'colon', 'two digits specifying
+--                                 seconds': the value is in seconds
+-- thousandths   what one unit of a fraction's last digit is: tenths, hundredths or thousandths of a second,
 --               in milliseconds
+-- fractionOf, fractionAt   'optionally: decimal point (dot) followed by one to three digits (fraction of a
+--                          second)': the value is in milliseconds
 -- loopWord, loopedAt   'optionally: one space followed by four uppercase letters "LOOP"'
--- timeAt        these three: the value is 2 × milliseconds, plus 1 where LOOP follows
+-- withFraction, withClock, timeAt   these three: the value is 2 × milliseconds, plus 1 where LOOP follows
 use Prim.Native.Nat.{ℕ, _+_, _*_}
 use mathlib.Core.Bool.{Bool, cond, _&&_, _||_}
 use mathlib.Core.List.{List, [], _∷_}

@@ -1,4 +1,4 @@
-// A song's duration at a place of lent bytes: the argument of TIME. Each byte is looked at once.
+// A song's duration at a place of lent bytes: the argument of TIME. Each is found in one pass.
 ghost use mathlib.Core.Path.{_≡_};
 ghost use Prim.Native.Nat.{_+_, _<_, _^_};
 ghost use lib.ListN.{drop};

@@ -26,8 +26,7 @@ ghost use Rattle.paircalls.specs.HalfSteps.{halfStepOutcome};
 ghost use Rattle.card.specs.Kinds.{fileKind};
 ghost use Rattle.reasons.specs.Phrases.{phraseAt};
 
-// What a file is: 1 PSID, 2 RSID, 3 MUS, 4 SAP, 0 none of them. It says nothing of whether the file is
-// accepted.
+// What a file is: 1 PSID, 2 RSID, 3 MUS, 4 SAP, 0 none of them; accepted or not.
 #[no_mangle]
 pub extern "C" fn tt_kind(file: &[u8]) -> u64
     ensures { λ r. ⌜ r ≡ fileKind (now (file .entry)) ⌝ }

@@ -1,4 +1,5 @@
--- `text_at` meets its contract: the two quotes and the text between them are those of the place. Assumes nothing.
+-- `text_at` meets its contract: the two quotes and the text between them are those of the place. Assumes
+-- nothing.
 use Prim.Native.Nat.{_+_}
 use mathlib.Core.Bool.{_&&_}
 use native.Mathlib.Omega.{arith}

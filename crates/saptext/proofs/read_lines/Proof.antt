@@ -1,5 +1,5 @@
--- `read_lines` meets its contract. The invariant is `Ongoing`: the cells so far, run on from the line where the
--- loop stands, give the whole. Assumes nothing.
+-- `read_lines` meets its contract. The invariant is `Ongoing`: the cells so far, run on from the line where
+-- the loop stands, give the whole. Assumes nothing.
 use Prim.Native.Nat.{_-_}
 use mathlib.Core.Path.{sym, _∙_}
 use native.Mathlib.Omega.{arith}
@@ -19,7 +19,9 @@ loop-holds : tie.Need-loop-holds Inv-loop μ-loop
 loop-holds c = start _ _
 
 returns : tie.Need-returns Inv-loop μ-loop
-returns c = end-marked (c .before .before .before .loop .inv) (sym (c .before .is-marker .ensures) ∙ c .if1 .taken)
+returns c =
+    rw (c .ended-lines .ensures)
+    (end-marked (c .before .before .before .before .loop .inv) (sym (c .before .before .is-marker .ensures) ∙ c .before .if1 .taken))
 
 entry-at-requires : tie.Need-entry-at-requires Inv-loop μ-loop
 entry-at-requires c κs = c .before .before .loop-test .taken
@@ -94,6 +96,7 @@ read-lines-spec =
     Inv-loop
     μ-loop
     loop-holds
+    (λ c κs. search needs)
     (λ c κs. search needs)
     returns
     entry-at-requires

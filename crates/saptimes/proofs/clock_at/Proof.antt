@@ -1,4 +1,5 @@
--- `clock_at` meets its contract: the digits and the byte between them are those of the place. Assumes nothing.
+-- `clock_at` meets its contract: the digits and the byte between them are those of the place. Assumes
+-- nothing.
 use Prim.Native.Nat.{_+_}
 use native.Mathlib.Omega.{arith}
 use denote.Ref.{now}
