@@ -3,3 +3,5 @@ pub mod Exchange
 pub mod Files
 pub mod Texts
 pub mod Outcomes
+pub mod Stands
+pub mod Example
