@@ -11,7 +11,8 @@ use mathlib.Core.List.{List, [], _∷_}
 use Rattle.fields.specs.Numbers.{le16}
 use Rattle.refusals.specs.Numbers.Outcome.{accepted}
 use Rattle.characters.specs.Characters.{leading, stands, numberFrom, digitsOf}
-use Rattle.saptags.specs.Tags.{byteText, tagAt}
+use Rattle.fields.specs.Parts.{byteText}
+use Rattle.saptags.specs.Tags.{tagAt}
 use Rattle.saplines.specs.Lines.{argumentAfter, lineAt}
 use Rattle.sapblocks.specs.Blocks.{blocksFrom, blocksIn}
 use Rattle.saptext.specs.Text.{StoredLine, cut, textFrom, textIn}
