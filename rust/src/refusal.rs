@@ -195,7 +195,7 @@ pub fn reason_into(number: u32, out: &mut [u8]) -> usize {
 /// ```
 /// use turftangle::{pair, Reason};
 ///
-/// let refusal = pair::read(0x01, 0x83).unwrap_err();
+/// let refusal = pair::read(0x01, 0x53).unwrap_err();
 /// assert_eq!((refusal.reason, refusal.place), (Reason::UnassignedPair, 0));
 /// assert_eq!(refusal.to_string(), format!("refused 27: {}", Reason::UnassignedPair));
 /// assert_eq!(format!("{refusal:?}"), refusal.to_string());

@@ -57,6 +57,7 @@ fn random_songs() {
         checker.came_alone(Call::MusVoices, [0, 21, 22, 23, 24]);
         checker.came_alone(Call::MusList, file().chain([41, 42]));
         checker.kinds_came(&[0, 3]);
+        checker.sixteen.came();
     }
 }
 
@@ -154,20 +155,18 @@ fn longest_songs() {
     checker.came_alone(Call::MusAccept, [0, 22]);
 }
 
-/// Every order of up to six pairs of eight kinds, before a HLT.
-#[test]
-fn every_small_structure() {
+/// Every order of up to six pairs of eight kinds, before a HLT. The phrases have these two numbers.
+fn small_structures(checker: &mut Checker, one: usize, two: usize) {
     let kinds = [
         [0x20, 0x94],
         head(2),
         TAL,
-        define(0),
+        define(one),
         END,
-        call(0),
-        define(23),
-        call(23),
+        call(one),
+        define(two),
+        call(two),
     ];
-    let mut checker = Checker::new();
     let mut file = Vec::new();
     for length in 0..=6 {
         for order in 0..8_usize.pow(length) {
@@ -190,7 +189,19 @@ fn every_small_structure() {
             }
         }
     }
+}
+
+/// The first phrase and the last; and 16 beside the two that it could be taken for: 0 has its last
+/// four bits, 8 has its nibble.
+#[test]
+fn every_small_structure() {
+    let mut checker = Checker::new();
+    for (one, two) in [(0, 23), (0, 16), (8, 16)] {
+        small_structures(&mut checker, one, two);
+    }
+    println!("{}", checker.told());
     checker.came_alone(Call::MusAccept, [0, 30]);
+    checker.sixteen.came();
 }
 
 /// Every byte of a song set to every value; and every prefix.

@@ -27,7 +27,24 @@ fn every_pair_is_read() {
     }
     let tally = checker.tally(Call::PairRead);
     assert_eq!(tally.iter().sum::<u64>(), 65_536);
+    // seven second bytes after 01; the other 63 first bytes with low bits 01, and 8E AE CE EE
+    assert_eq!(tally[27], 7 + (63 + 4) * 256);
     checker.came_alone(Call::PairRead, [0, 27, 28]);
+}
+
+/// DEF and CAL have the numbers 0 to 23 and no others, 16 among them; each is that of one pair.
+#[test]
+fn twenty_four_phrases() {
+    for front in [0x306, 0x302] {
+        let codes = all_pairs().filter_map(|(first, second)| read_code(first, second).ok());
+        let mut numbers: Vec<u32> = codes
+            .filter(|code| code >> 20 == front)
+            .map(|code| code & 0xF_FFFF)
+            .collect();
+        numbers.sort_unstable();
+        println!("{front:03X}: phrases {numbers:?}");
+        assert!(numbers.into_iter().eq(0..24));
+    }
 }
 
 /// Each code of a pair is written, and what is written reads as that code again.

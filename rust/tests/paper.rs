@@ -38,7 +38,9 @@ fn starred_pairs() {
     assert_eq!(code(0x10, 0xF9), Ok(0x1040_0CF0)); // C flat 0
     assert_eq!(code(0x10, 0x47), Ok(0x1040_0B17)); // B sharp 7
     assert_eq!(code(0x6E, 0xF8), Err(28)); // SCA -8
-    assert_eq!(code(0x01, 0x83), Err(27));
+    assert_eq!(code(0x01, 0x83), Ok(0x3060_0010)); // DEF 16
+    assert_eq!(code(0x01, 0x8B), Ok(0x3020_0010)); // CAL 16
+    assert_eq!(code(0x01, 0x53), Err(27)); // 3-0 is never NO
     assert_eq!(code(0x06, 0x00), Ok(0x2060_0100)); // TEM 256
     assert_eq!(code(0x01, 0x9B), Ok(0x3020_0011)); // CAL 17
     assert_eq!(code(0x01, 0xDF), Ok(0x38F0_0002)); // DST 2

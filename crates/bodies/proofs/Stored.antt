@@ -16,12 +16,12 @@ use Rattle.kind.specs.declared.Kind.{Kind}
 use Rattle.kind.specs.declared.Kind.the-variants as Kind
 use Rattle.kind.specs.Kinds.{kindOf}
 use Rattle.kind.proofs.PlainEvents as plain
-use Rattle.bodies.specs.Voice.{pairs, pairAt, plainAt}
+use Rattle.bodies.specs.Voice.{pairsBy, pairs, pairAt, plainAt}
 use Rattle.bodies.specs.Bodies.{Event, byTal, byEnd, Body, done, event, repeat, phrase, call, inner, outer, withPair, eventAt, bodies}
 use Rattle.bodies.specs.Places.{openAt}
 
 pub length-pairs : (bs : List ℕ) → length (pairs bs) ≡ length bs / 2
-unfolding pairs
+unfolding pairsBy pairs
 length-pairs [] = refl
 length-pairs (a ∷ []) = refl
 length-pairs (a ∷ b ∷ bs) = rw (length-pairs bs) (omega arith)
@@ -30,14 +30,14 @@ double : (i : ℕ) → 2 * suc i ≡ suc (suc (2 * i))
 double i = omega arith
 
 pub pairs-from : (bs : List ℕ) (i : ℕ) → drop i (pairs bs) ≡ pairs (drop (2 * i) bs)
-unfolding pairs
+unfolding pairsBy pairs
 pairs-from bs zero = refl
 pairs-from [] (suc i) = rw (drop-nil {A = ℕ} (2 * suc i))
 pairs-from (a ∷ []) (suc i) = rw (double i)
 pairs-from (a ∷ b ∷ bs) (suc i) = rw (double i) (pairs-from bs i)
 
 pub pairs-cons : (bs : List ℕ) (i : ℕ) → i < length bs / 2 → drop i (pairs bs) ≡ pairAt bs i ∷ drop (i + 1) (pairs bs)
-unfolding pairs pairAt
+unfolding pairsBy pairs pairAt
 pairs-cons bs i h =
     let one = drop-cons bs (2 * i) 0 (omega arith) in
     let two = drop-cons bs (suc (2 * i)) 0 (omega arith) in

@@ -10,7 +10,7 @@
 use Prim.Native.Nat.{ℕ}
 use mathlib.Core.Path.{_≡_, refl}
 use mathlib.Core.List.{List, [], _∷_, map}
-use Rattle.bodies.specs.Voice.{pairs}
+use Rattle.bodies.specs.Voice.{pairsBy, pairs}
 use Rattle.bodies.specs.Bodies.{Event, inner, outer, withPair, bodies, bodyOf}
 use Rattle.bodies.specs.Playing.{interpret, phrases, copies, played, eventsOf, walkedOf, depthOf}
 
@@ -26,7 +26,7 @@ reel =
 
 -- Document 01's own voice plays TEM, the note three times and HLT: 5 events, 9 pairs walked, depth 1.
 pub bench-played : (eventNumbers (played (pairs bench)) ≡ 0 ∷ 2 ∷ 2 ∷ 2 ∷ 4 ∷ []) × (eventsOf (pairs bench) ≡ 5) × (walkedOf (pairs bench) ≡ 9) × (depthOf (pairs bench) ≡ 1)
-unfolding pairs inner outer withPair bodies bodyOf interpret phrases copies played eventsOf walkedOf depthOf
+unfolding pairsBy pairs inner outer withPair bodies bodyOf interpret phrases copies played eventsOf walkedOf depthOf
 bench-played = (refl, refl, refl, refl)
 
 -- A voice with a phrase that is defined, and then called in a repeat, plays these 10 events, walks 19 pairs
@@ -35,5 +35,5 @@ pub reel-played : (eventNumbers (played (pairs reel)) ≡ 0 ∷ 2 ∷ 3 ∷ 2 �
     × (eventsOf (pairs reel) ≡ 10)
     × (walkedOf (pairs reel) ≡ 19)
     × (depthOf (pairs reel) ≡ 2)
-unfolding pairs inner outer withPair bodies bodyOf interpret phrases copies played eventsOf walkedOf depthOf
+unfolding pairsBy pairs inner outer withPair bodies bodyOf interpret phrases copies played eventsOf walkedOf depthOf
 reel-played = (refl, refl, refl, refl)

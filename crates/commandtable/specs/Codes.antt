@@ -1,15 +1,17 @@
--- Source 004, 'COMMANDS WITH FIRST BYTE = HEX 01', row by row, with document 01's 'Unassigned: 53 6F 7F 83 8B
--- 9F BF CF FF'.
+-- Source 004, 'COMMANDS WITH FIRST BYTE = HEX 01', row by row. The bytes that fit no row are 'Unassigned: 53
+-- 6F 7F 9F BF CF FF' (document 01, corrected by request (ii)).
 -- Command                   the commands of the table in its order, and none
 -- Row                       a row: the second byte's pattern, the command, and which numbers it may have and
 --                           what is added to them
--- counts, is, from9, upTo   kinds of rows: every number; a byte with one value; numbers from 1 with 16 added;
---                           numbers up to a greatest
--- rows                      the table
+-- counts, is, from16, upTo  kinds of rows: every number; a byte with one value; numbers from a least one with
+--                           16 added; numbers up to a greatest
+-- rowsFrom                  the table, where a number is the least of the two rows 1nnn of DEF and CAL
+-- rows                      the table as it holds: that least number is 0, which is phrase 16
 -- fitsRow                   whether a byte fits a row, with a number that the row may have
 -- CommandValue, secondBy, secondMeans   a second byte's command and value: those of the row that it fits
 -- bumpOf, commandMeaning    what a command and its value mean
--- secondOutcome             the meaning of 01 and a second byte, or 27
+-- secondFrom                the meaning of 01 and a second byte, or 27, by the rows from a least number
+-- secondOutcome             the same by the table as it holds
 use Prim.Native.Nat.{ℕ, _+_}
 use mathlib.Core.Bool.{Bool, _&&_, cond}
 use mathlib.Core.List.{List, [], _∷_}
@@ -38,15 +40,15 @@ counts p c = record { pattern = p; command = c; least = 0; most = 31; added = 0 
 abbrev is : List Symbol → Command → ℕ → Row
 is p c v = record { pattern = p; command = c; least = 0; most = 0; added = v }
 
--- 'Bits 7654 contain a value, 9-F, which is 8 less than the true value'
-abbrev from9 : List Symbol → Command → Row
-from9 p c = record { pattern = p; command = c; least = 1; most = 7; added = 16 }
+-- 'Bits 7654 contain a value .. which is 8 less than the true value', so 1nnn is 16 and nnn
+abbrev from16 : ℕ → List Symbol → Command → Row
+from16 least p c = record { pattern = p; command = c; least = least; most = 7; added = 16 }
 
 abbrev upTo : ℕ → List Symbol → Command → Row
 upTo most p c = record { pattern = p; command = c; least = 0; most = most; added = 0 }
 
-abbrev pub rows : List Row
-rows =
+abbrev pub rowsFrom : ℕ → List Row
+rowsFrom least =
     counts (byte n n n n O O O O) DCY
     ∷ counts (byte n n n n n O O I) RUP
     ∷ counts (byte n n n n O O I O) CAL
@@ -55,7 +57,7 @@ rows =
     ∷ is (byte O O I O O O I I) RNG 0
     ∷ is (byte O O I I O O I I) SNC 0
     ∷ is (byte O I O O O O I I) F-X 0
-    ∷ from9 (byte I n n n O O I I) DEF
+    ∷ from16 least (byte I n n n O O I I) DEF
     ∷ counts (byte O n n n n I O O) ATK
     ∷ counts (byte I n n n n I O O) SUS
     ∷ is (byte O I I O O O I I) LFO 0
@@ -74,7 +76,7 @@ rows =
     ∷ is (byte O I O I I O I I) 3-0 1
     ∷ is (byte O I I O I O I I) LFO 1
     ∷ is (byte O I I I I O I I) P&V 1
-    ∷ from9 (byte I n n n I O I I) CAL
+    ∷ from16 least (byte I n n n I O I I) CAL
     ∷ counts (byte n n n n I I I O) VOL
     ∷ is (byte O O O O I I I I) TAL 0
     ∷ is (byte O O I O I I I I) END 0
@@ -85,6 +87,10 @@ rows =
     ∷ is (byte I I O I I I I I) DST 2
     ∷ is (byte I I I O I I I I) DST 3
     ∷ []
+
+-- 'The pattern is right: nibble 8 in the n3 and nB rows means phrase 16' (request (ii))
+abbrev pub rows : List Row
+rows = rowsFrom 0
 
 pub record CommandValue : Type 0 where
   pub command : Command
@@ -132,5 +138,8 @@ commandMeaning SRC v = accepted (Src v)
 commandMeaning DST v = accepted (Dst v)
 commandMeaning none v = refused (numberOf unassignedPair) 0
 
+abbrev pub secondFrom : ℕ → ℕ → Outcome Meaning
+secondFrom least b = commandMeaning (secondBy (rowsFrom least) b .command) (secondBy (rowsFrom least) b .value)
+
 abbrev pub secondOutcome : ℕ → Outcome Meaning
-secondOutcome b = commandMeaning (secondMeans b .command) (secondMeans b .value)
+secondOutcome b = secondFrom 0 b

@@ -19,7 +19,7 @@ use Rattle.mus.specs.Bounds.{InSong}
 use Rattle.cells.specs.Window.{filled}
 use Rattle.walk.specs.Times.{offsetsOf, jiffiesOf}
 use Rattle.walk.specs.Bounds.{Listable}
-use Rattle.events.specs.Listing.{playedIn, Listing, windowIn, filledBy, listing}
+use Rattle.events.specs.Listing.{playedBy, playedIn, Listing, windowIn, filledBy, listingBy, listing}
 
 abbrev left : Outcome ℕ → List ℕ → List ℕ → Listing
 left answer os js = record { answer = answer; offsets = os; jiffies = js }
@@ -40,19 +40,19 @@ module _ (f : List ℕ) (v : Voice) (first : ℕ) (os js : List ℕ) (i : InSong
 
   pub part-listed : {os′ js′ : List ℕ} → os′ ≡ filled first count (offsetsOf (v .offset) (played (pairs bs))) os → js′ ≡ filled first count (jiffiesOf (played (pairs bs))) js
       → left (accepted count) os′ js′ ≡ windowIn f v first os js
-  unfolding playedIn eventsOf
+  unfolding playedBy eventsOf
   part-listed eo ej = rw (eo, ej, n, b, i .events)
 
 module _ (f : List ℕ) (voice first : ℕ) (os js : List ℕ) where
   pub voice-refused : ltb voice 1 || ltb 3 voice ≡ true → left (refused 41 0) os js ≡ listing f voice first os js
-  unfolding listing
+  unfolding listingBy
   voice-refused e = rw e
 
   module _ (inside : ltb voice 1 || ltb 3 voice ≡ false) where
     pub lengths-refused : (length os ≡ length js → ⊥) → left (refused 42 0) os js ≡ listing f voice first os js
-    unfolding listing
+    unfolding listingBy
     lengths-refused n = rw (inside, ne-eqb (length os) (length js) n)
 
-    pub voice-answered : length os ≡ length js → (o : Outcome Voice) → o ≡ voiceAsked f voice → filledBy f first os js o ≡ listing f voice first os js
-    unfolding listing
+    pub voice-answered : length os ≡ length js → (o : Outcome Voice) → o ≡ voiceAsked f voice → filledBy (playedIn f) first os js o ≡ listing f voice first os js
+    unfolding listingBy
     voice-answered e o q = rw (inside, eq-eqb (length os) (length js) e, q)

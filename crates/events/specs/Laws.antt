@@ -41,7 +41,7 @@ use Rattle.cells.specs.Laws.{filled-length, filled-at, filled-beyond, filled-sp
 use Rattle.walk.specs.Times.{offsetsOf, meanings, jiffiesOf}
 use Rattle.events.specs.declared.Listed.{Listed}
 use Rattle.events.specs.declared.Listed.the-variants.{Count, Refused}
-use Rattle.events.specs.Listing.{callerTests, playedIn, countOf, windowIn, filledBy, listing, outcomeOfListed}
+use Rattle.events.specs.Listing.{callerTests, playedIn, countOf, windowIn, filledBy, listingBy, listing, outcomeOfListed}
 
 -- Two answers that have one outcome are one answer.
 pub listed-once : (a b : Listed) → outcomeOfListed a ≡ outcomeOfListed b → a ≡ b
@@ -62,35 +62,35 @@ pub record Answered (f : List ℕ) (voice first : ℕ) (os js : List ℕ) : Type
 module _ (f : List ℕ) (voice first : ℕ) (os js : List ℕ) where
   -- A voice that is not 1 to 3 is 41, before all else.
   pub voice-first : ltb voice 1 || ltb 3 voice ≡ true → listing f voice first os js .answer ≡ refused 41 0
-  unfolding listing
+  unfolding listingBy
   voice-first e = rw e
 
   -- For one of these voices two lists of unequal length are 42, whatever the file.
   pub lengths-next : ltb voice 1 || ltb 3 voice ≡ false → (length os ≡ length js → ⊥) → listing f voice first os js .answer ≡ refused 42 0
-  unfolding listing
+  unfolding listingBy
   lengths-next e n = rw (e, ne-eqb (length os) (length js) n)
 
   -- With both in order the call goes by the file: its own refusal, or its voice ('40, 41 and 42 are tested
   -- before the file, in that order').
-  pub file-last : ltb voice 1 || ltb 3 voice ≡ false → length os ≡ length js → listing f voice first os js ≡ filledBy f first os js (andThen (musOutcome f) (λ s. accepted (songVoice s voice)))
-  unfolding listing
+  pub file-last : ltb voice 1 || ltb 3 voice ≡ false → length os ≡ length js → listing f voice first os js ≡ filledBy (playedIn f) first os js (andThen (musOutcome f) (λ s. accepted (songVoice s voice)))
+  unfolding listingBy
   file-last e same = rw (e, eq-eqb (length os) (length js) same, file-next f voice e)
 
   -- A refusal leaves both lists as they were ('A refusal .. changes no lent memory').
   pub refused-unchanged : {number place : ℕ} → listing f voice first os js .answer ≡ refused number place → (listing f voice first os js .offsets ≡ os) × (listing f voice first os js .jiffies ≡ js)
-  unfolding listing
+  unfolding listingBy
   refused-unchanged {number} {place} e = go (guarded (firstOf (callerTests voice (length os) (length js))) (voiceAsked f voice)) e
     where
-      go : (o : Outcome Voice) → filledBy f first os js o .answer ≡ refused number place → (filledBy f first os js o .offsets ≡ os) × (filledBy f first os js o .jiffies ≡ js)
+      go : (o : Outcome Voice) → filledBy (playedIn f) first os js o .answer ≡ refused number place → (filledBy (playedIn f) first os js o .offsets ≡ os) × (filledBy (playedIn f) first os js o .jiffies ≡ js)
       go (accepted v) q = absurd (two-ways (sym q))
       go (refused n p) q = (refl, refl)
 
   -- A call that answers a count has listed the voice asked for, of an accepted file.
   pub accepted-window : {n : ℕ} → listing f voice first os js .answer ≡ accepted n → Answered f voice first os js
-  unfolding listing
+  unfolding listingBy
   accepted-window {n} e = go (guarded (firstOf (callerTests voice (length os) (length js))) (voiceAsked f voice)) refl e
     where
-      go : (o : Outcome Voice) → guarded (firstOf (callerTests voice (length os) (length js))) (voiceAsked f voice) ≡ o → filledBy f first os js o .answer ≡ accepted n → Answered f voice first os js
+      go : (o : Outcome Voice) → guarded (firstOf (callerTests voice (length os) (length js))) (voiceAsked f voice) ≡ o → filledBy (playedIn f) first os js o .answer ≡ accepted n → Answered f voice first os js
       go (accepted v) q h =
           let passed = guarded-passed (firstOf (callerTests voice (length os) (length js))) (voiceAsked f voice) v q in
           let none = passed-none (callerTests voice (length os) (length js)) (passed .0) in

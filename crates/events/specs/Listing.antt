@@ -5,14 +5,17 @@
 -- (crates/clock/specs/Times.antt) and the lists as they were.
 -- callerTests       'voice not 1 to 3', 'two lists of unequal length': '40, 41 and 42 are tested before the
 --                   file, in that order'
--- playedIn          the played-out voice
+-- playedBy          the played-out voice, where read is the way to read its pairs
+-- playedIn          the same with document 01's reader, pairs
 -- countOf           'How many is the lesser of the lists' length and the number of events from the first one
 --                   asked for to the end'
 -- Listing           what a call leaves: its answer, and both lists
--- windowIn          what it leaves for a voice
+-- windowOf          what it leaves for a voice with these events
+-- windowIn          what it leaves for a voice of a file
 -- filledBy          what it leaves, by the voice or the refusal: 'A refusal .. changes no lent memory'
--- listing           what it leaves for a file: 41, then 42, then the file's own refusal, then the voice
---                   (crates/mus/specs/Asked.antt)
+-- listingBy         what it leaves for a file: 41, then 42, then the file's own refusal, then the voice
+--                   (crates/mus/specs/Asked.antt), where read is the way to read pairs
+-- listing           the same with document 01's reader, pairs
 -- outcomeOfListed   what an answer says
 use Prim.Native.Nat.{ℕ, _-_, min}
 use mathlib.Core.Bool.{not}
@@ -23,10 +26,10 @@ use Rattle.refusals.specs.Numbers.{Outcome, listLengths}
 use Rattle.refusals.specs.Numbers.Outcome.{accepted, refused}
 use Rattle.refusals.specs.Tests.{Test, test, firstOf, guarded}
 use Rattle.bodies.specs.Bodies.{Event}
-use Rattle.bodies.specs.Voice.{pairs}
+use Rattle.bodies.specs.Voice.{Reader, pairs}
 use Rattle.bodies.specs.Playing.{played}
 use Rattle.mus.specs.declared.Voice.{Voice}
-use Rattle.mus.specs.Asked.{numberTests, voiceAsked, bytesOf}
+use Rattle.mus.specs.Asked.{numberTests, askedBy, bytesOf}
 use Rattle.cells.specs.Window.{filled}
 use Rattle.walk.specs.Times.{offsetsOf, jiffiesOf}
 use Rattle.events.specs.declared.Listed.{Listed}
@@ -35,8 +38,11 @@ use Rattle.events.specs.declared.Listed.the-variants.{Count, Refused}
 abbrev pub callerTests : ℕ → ℕ → ℕ → List Test
 callerTests voice n m = numberTests voice ++ test listLengths (not (eqb n m)) ∷ []
 
-unfoldable pub playedIn : List ℕ → Voice → List Event
-playedIn f v = played (pairs (bytesOf f v))
+unfoldable pub playedBy : Reader → List ℕ → Voice → List Event
+playedBy read f v = played (read (bytesOf f v))
+
+abbrev pub playedIn : List ℕ → Voice → List Event
+playedIn f v = playedBy pairs f v
 
 abbrev pub countOf : ℕ → ℕ → List Event → ℕ
 countOf cells first es = min cells (length es - first)
@@ -46,20 +52,29 @@ pub record Listing : Type 0 where
   pub offsets : List ℕ
   pub jiffies : List ℕ
 
-abbrev pub windowIn : List ℕ → Voice → ℕ → List ℕ → List ℕ → Listing
-windowIn f v first os js =
+abbrev pub windowOf : Voice → List Event → ℕ → List ℕ → List ℕ → Listing
+windowOf v es first os js =
     record {
-      answer = accepted (countOf (length os) first (playedIn f v));
-      offsets = filled first (countOf (length os) first (playedIn f v)) (offsetsOf (v .offset) (playedIn f v)) os;
-      jiffies = filled first (countOf (length os) first (playedIn f v)) (jiffiesOf (playedIn f v)) js;
+      answer = accepted (countOf (length os) first es);
+      offsets = filled first (countOf (length os) first es) (offsetsOf (v .offset) es) os;
+      jiffies = filled first (countOf (length os) first es) (jiffiesOf es) js;
     }
 
-abbrev pub filledBy : List ℕ → ℕ → List ℕ → List ℕ → Outcome Voice → Listing
-filledBy f first os js (accepted v) = windowIn f v first os js
-filledBy f first os js (refused number place) = record { answer = refused number place; offsets = os; jiffies = js }
+abbrev pub windowIn : List ℕ → Voice → ℕ → List ℕ → List ℕ → Listing
+windowIn f v first os js = windowOf v (playedIn f v) first os js
 
-unfoldable pub listing : List ℕ → ℕ → ℕ → List ℕ → List ℕ → Listing
-listing f voice first os js = filledBy f first os js (guarded (firstOf (callerTests voice (length os) (length js))) (voiceAsked f voice))
+abbrev pub filledBy : (Voice → List Event) → ℕ → List ℕ → List ℕ → Outcome Voice → Listing
+filledBy events first os js (accepted v) = windowOf v (events v) first os js
+filledBy events first os js (refused number place) =
+    record { answer = refused number place; offsets = os; jiffies = js }
+
+unfoldable pub listingBy : Reader → List ℕ → ℕ → ℕ → List ℕ → List ℕ → Listing
+listingBy read f voice first os js =
+    filledBy (playedBy read f) first os js
+    (guarded (firstOf (callerTests voice (length os) (length js))) (askedBy read f voice))
+
+abbrev pub listing : List ℕ → ℕ → ℕ → List ℕ → List ℕ → Listing
+listing f voice first os js = listingBy pairs f voice first os js
 
 abbrev pub outcomeOfListed : Listed → Outcome ℕ
 outcomeOfListed (Count n) = accepted n

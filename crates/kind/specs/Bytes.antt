@@ -1,6 +1,6 @@
 -- Kinds as the code tells them from the bytes; proofs/Rows.antt proves them the kinds of source 004's rows.
--- Document 01, 'A pair', first byte 01: 'Unassigned: 53 6F 7F 83 8B 9F BF CF FF. DEF and CAL nibbles 9-F in
--- the n3 and nB rows mean 17 to 23.'
+-- Document 01, 'A pair', first byte 01, corrected by request (ii): 'Unassigned: 53 6F 7F 9F BF CF FF. DEF and
+-- CAL nibbles 8-F in the n3 and nB rows mean 16 to 23.'
 -- eventUnless        an event, or 27 where the pair is unassigned
 -- eventIf            an event, or 28 where the value is not in its range
 -- row3, rowB, rowF   a second byte after 01 whose low nibble is 3, B or F
@@ -19,10 +19,10 @@ abbrev pub eventIf : Bool → Kind
 eventIf b = cond b Event (Bad (numberOf valueRange))
 
 abbrev pub row3 : ℕ → Kind
-row3 b = cond (leb 0x90 b) (Def (b / 16 + 8)) (eventUnless (eqb b 0x53 || eqb b 0x83))
+row3 b = cond (leb 0x80 b) (Def (b / 16 + 8)) (eventUnless (eqb b 0x53))
 
 abbrev pub rowB : ℕ → Kind
-rowB b = cond (leb 0x90 b) (Cal (b / 16 + 8)) (eventUnless (eqb b 0x8B))
+rowB b = cond (leb 0x80 b) (Cal (b / 16 + 8)) Event
 
 abbrev pub rowF : ℕ → Kind
 rowF b =

@@ -16,25 +16,25 @@ fn event_unless(unassigned: bool) -> Kind
     }
 }
 
-// DEF 17 to 23 from 93 on; below it switches.
+// DEF 16 to 23 from 83 on; below it switches.
 fn row_3(second: u8) -> Kind
     ensures { λ r. ⌜ r ≡ row3 second ⌝ }
 {
-    if 0x90 <= second {
+    if 0x80 <= second {
         Kind::Def(second as u16 / 16 + 8)
     } else {
-        event_unless((second == 0x53) | (second == 0x83))
+        event_unless(second == 0x53)
     }
 }
 
-// CAL 17 to 23 from 9B on; below it switches.
+// CAL 16 to 23 from 8B on; below it switches.
 fn row_b(second: u8) -> Kind
     ensures { λ r. ⌜ r ≡ rowB second ⌝ }
 {
-    if 0x90 <= second {
+    if 0x80 <= second {
         Kind::Cal(second as u16 / 16 + 8)
     } else {
-        event_unless(second == 0x8B)
+        Kind::Event
     }
 }
 

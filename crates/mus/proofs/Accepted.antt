@@ -36,7 +36,7 @@ accepted-sound v p = sound v (p .pairs) (p .structure)
 
 voice-ends : (bs : List ℕ) → 1 < length bs → Passes (voice.pairs bs)
     → EndsInHlt (played (voice.pairs bs)) (length (voice.pairs bs))
-unfolding voice.pairs
+unfolding voice.pairsBy voice.pairs
 voice-ends [] h p = absurd (omega arith)
 voice-ends (a ∷ []) h p = absurd (omega arith)
 voice-ends (a ∷ b ∷ bs) h p = voice-halts (meaningOf a b) (voice.pairs bs) (p .pairs) (p .structure)

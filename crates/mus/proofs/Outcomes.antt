@@ -5,7 +5,7 @@
 -- part-short                 a part of a file is no longer than the file
 -- first-refused, second-refused, third-refused, all-sound   a file by its voices
 -- in-file                    what a right container says of the places of its voices
--- container-refused, container-fits   a file by its container
+-- container-fits             a file by its container
 -- file-answered              a voice by its number, by the file
 use Prim.Native.Nat.{ℕ, _+_, _*_, _≤_}
 use mathlib.Core.Path.{_≡_, subst}
@@ -30,24 +30,24 @@ use Rattle.structure.specs.Laws.{clear-none, pairs-within, structure-within}
 use Rattle.structure.proofs.Sound.{sound}
 use Rattle.counts.specs.Limits.{countOutcome}
 use Rattle.mus.specs.declared.Voice.{Voice}
-use Rattle.mus.specs.Voices.{limited, voiceOutcome}
+use Rattle.mus.specs.Voices.{limited, voiceBy, voiceOutcome}
 use Rattle.mus.specs.declared.Song.{Song}
-use Rattle.mus.specs.Song.{voiceIn, songWith, songIn, musOutcome}
+use Rattle.mus.specs.Song.{voiceIn, songWith, songIn, songBy, musOutcome}
 use Rattle.mus.specs.Bounds.{InFile}
 use Rattle.mus.specs.Asked.{songVoice, voiceAsked}
 use Rattle.mus.specs.AskedLaws.{file-next}
 
 module _ (offset : ℕ) (bs : List ℕ) where
   pub pairs-refused : (n i : ℕ) → pairsFinding (pairs bs) ≡ At n i → voiceOutcome offset bs ≡ refused n (offset + 2 * i)
-  unfolding voiceOutcome
+  unfolding voiceBy
   pairs-refused n i e = rw e
 
   pub structure-refused : (n i : ℕ) → pairsFinding (pairs bs) ≡ Clear → structureFinding (pairs bs) ≡ At n i → voiceOutcome offset bs ≡ refused n (offset + 2 * i)
-  unfolding voiceOutcome
+  unfolding voiceBy
   structure-refused n i e g = rw (e, g)
 
   pub both-clear : pairsFinding (pairs bs) ≡ Clear → structureFinding (pairs bs) ≡ Clear → voiceOutcome offset bs ≡ limited offset (length bs) (countOutcome (pairs bs))
-  unfolding voiceOutcome
+  unfolding voiceBy
   both-clear e g = rw (e, g)
 
 pub clear-sound : (bs : List ℕ) → pairsFinding (pairs bs) ≡ Clear → structureFinding (pairs bs) ≡ Clear → order.Sound (pairs bs)
@@ -64,16 +64,16 @@ pub part-short : (f : List ℕ) (from len : ℕ) → length f ≤ 65536 → leng
 part-short f from len h = omega (arith, length-take len (drop from f), length-drop from f)
 
 module _ (f : List ℕ) (l : Layout) where
-  pub first-refused : (n p : ℕ) → voiceIn f (l .voice1) ≡ refused n p → songIn f l ≡ refused n p
+  pub first-refused : (n p : ℕ) → voiceIn pairs f (l .voice1) ≡ refused n p → songIn (voiceIn pairs f) l ≡ refused n p
   first-refused n p e = rw e
 
-  pub second-refused : (v1 : Voice) (n p : ℕ) → voiceIn f (l .voice1) ≡ accepted v1 → voiceIn f (l .voice2) ≡ refused n p → songIn f l ≡ refused n p
+  pub second-refused : (v1 : Voice) (n p : ℕ) → voiceIn pairs f (l .voice1) ≡ accepted v1 → voiceIn pairs f (l .voice2) ≡ refused n p → songIn (voiceIn pairs f) l ≡ refused n p
   second-refused v1 n p e g = rw (e, g)
 
-  pub third-refused : (v1 v2 : Voice) (n p : ℕ) → voiceIn f (l .voice1) ≡ accepted v1 → voiceIn f (l .voice2) ≡ accepted v2 → voiceIn f (l .voice3) ≡ refused n p → songIn f l ≡ refused n p
+  pub third-refused : (v1 v2 : Voice) (n p : ℕ) → voiceIn pairs f (l .voice1) ≡ accepted v1 → voiceIn pairs f (l .voice2) ≡ accepted v2 → voiceIn pairs f (l .voice3) ≡ refused n p → songIn (voiceIn pairs f) l ≡ refused n p
   third-refused v1 v2 n p e g h = rw (e, g, h)
 
-  pub all-sound : (v1 v2 v3 : Voice) → voiceIn f (l .voice1) ≡ accepted v1 → voiceIn f (l .voice2) ≡ accepted v2 → voiceIn f (l .voice3) ≡ accepted v3 → songIn f l ≡ accepted (songWith l v1 v2 v3)
+  pub all-sound : (v1 v2 v3 : Voice) → voiceIn pairs f (l .voice1) ≡ accepted v1 → voiceIn pairs f (l .voice2) ≡ accepted v2 → voiceIn pairs f (l .voice3) ≡ accepted v3 → songIn (voiceIn pairs f) l ≡ accepted (songWith l v1 v2 v3)
   all-sound v1 v2 v3 e g h = rw (e, g, h)
 
   pub in-file : containerOutcome f ≡ accepted l → InFile f l
@@ -87,13 +87,9 @@ module _ (f : List ℕ) (l : Layout) where
         voice3 = omega (arith, short-file f none, voice3-fits f none .2);
       }
 
-  pub container-fits : containerOutcome f ≡ accepted l → musOutcome f ≡ songIn f l
-  unfolding musOutcome
+  pub container-fits : containerOutcome f ≡ accepted l → musOutcome f ≡ songIn (voiceIn pairs f) l
+  unfolding songBy
   container-fits e = rw e
-
-pub container-refused : (f : List ℕ) (n p : ℕ) → containerOutcome f ≡ refused n p → musOutcome f ≡ refused n p
-unfolding musOutcome
-container-refused f n p e = rw e
 
 pub file-answered : (f : List ℕ) (n : ℕ) → ltb n 1 || ltb 3 n ≡ false → (o : Outcome Song) → o ≡ musOutcome f → andThen o (λ s. accepted (songVoice s n)) ≡ voiceAsked f n
 file-answered f n inside o e = rw (file-next f n inside, e)

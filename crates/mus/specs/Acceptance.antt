@@ -2,6 +2,7 @@
 -- voices; what is then reported of it follows from the file alone.
 -- Passes                           none of 27 to 33 applies to a voice
 -- voiceReport                      what is reported of a voice
+-- found-none                       where what comes after a finding is accepted, nothing was found
 -- passes-voice, voice-passes       a voice is accepted exactly when none applies to it
 -- Clear                            none of 21 to 33 applies to a file and its voices
 -- songOf                           what is reported of a file
@@ -34,8 +35,8 @@ use Rattle.counts.specs.declared.Counted.the-variants.{Within}
 use Rattle.counts.specs.Limits.{limitTests, unlessOff}
 use Rattle.mus.specs.declared.Voice.{Voice}
 use Rattle.mus.specs.declared.Song.{Song}
-use Rattle.mus.specs.Voices.{orFound, limited, voiceOutcome}
-use Rattle.mus.specs.Song.{voiceIn, songWith, songIn, musOutcome}
+use Rattle.mus.specs.Voices.{orFound, limited, voiceBy, voiceOutcome}
+use Rattle.mus.specs.Song.{voiceIn, songWith, songIn, songBy, musOutcome}
 
 pub record Passes (v : List (Outcome Meaning)) : Type 0 where
   -- None of 27 to 29 applies at any pair.
@@ -50,14 +51,15 @@ voiceReport offset bs = record { offset = offset; length = length bs; events = e
 
 -- A voice to which none of 27 to 33 applies is accepted, and what is reported of it is voiceReport.
 pub passes-voice : (offset : ℕ) (bs : List ℕ) → Passes (pairs bs) → voiceOutcome offset bs ≡ accepted (voiceReport offset bs)
-unfolding voiceOutcome pairsFinding structureFinding
+unfolding voiceBy pairsFinding structureFinding
 passes-voice offset bs p =
     rw (none-clear 0 (pairsTests (pairs bs)) (p .pairs), none-clear 0 (nestingsTests start (pairs bs)) (p .structure))
     (ap (λ (x : Verdict). limited offset (length bs)
     (unlessOff x (Within (eventsOf (pairs bs)) (walkedOf (pairs bs)))))
     (none-passed (limitTests (pairs bs)) (p .limits)))
 
-found-none : {A : Type 0} (offset : ℕ) (x : Finding) (o : Outcome A) (a : A) → orFound offset x o ≡ accepted a
+-- Where a voice is accepted after a look at its pairs, the look found nothing, and the rest accepts it.
+pub found-none : {A : Type 0} (offset : ℕ) (x : Finding) (o : Outcome A) (a : A) → orFound offset x o ≡ accepted a
     → (x ≡ Finding.Clear) × (o ≡ accepted a)
 found-none offset Finding.Clear o a e = (refl, e)
 found-none offset (Finding.At n i) o a e = absurd (two-ways e)
@@ -71,7 +73,7 @@ limited-none offset len (Failed n) events walked v e = absurd (two-ways e)
 -- An accepted voice is one to which none of 27 to 33 applies, and what is reported of it is voiceReport.
 pub voice-passes : (offset : ℕ) (bs : List ℕ) (v : Voice) → voiceOutcome offset bs ≡ accepted v
     → Passes (pairs bs) × (voiceReport offset bs ≡ v)
-unfolding voiceOutcome pairsFinding structureFinding
+unfolding voiceBy pairsFinding structureFinding
 voice-passes offset bs v e =
     let one = found-none offset (pairsFinding (pairs bs)) _ v e in
     let two = found-none offset (structureFinding (pairs bs)) _ v (one .1) in
@@ -105,7 +107,7 @@ songOf f = songWith (layoutOf f) (voiceAt f (layoutOf f .voice1)) (voiceAt f (la
 -- A file to which none of 21 to 26 applies, nor any of 27 to 33 to one of its voices, is accepted, and what
 -- is reported of it is songOf.
 pub clear-accepted : (f : List ℕ) → Clear f → musOutcome f ≡ accepted (songOf f)
-unfolding musOutcome songOf
+unfolding songBy songOf
 clear-accepted f c =
     let l = layoutOf f in
     rw (
@@ -129,17 +131,17 @@ then-given (refused n p) g b e = absurd (two-ways e)
 
 -- An accepted file is one to which none of them applies, and what is reported of it is songOf.
 pub accepted-clear : (f : List ℕ) (s : Song) → musOutcome f ≡ accepted s → Clear f × (songOf f ≡ s)
-unfolding musOutcome songOf
+unfolding songBy songOf
 accepted-clear f s e =
-    let right = then-given (containerOutcome f) (λ l. songIn f l) s e in
+    let right = then-given (containerOutcome f) (λ l. songIn (voiceIn pairs f) l) s e in
     let l = right .value in
     let lies : layoutOf f ≡ l = layout-of f l (right .was) in
-    let one = then-given (voiceIn f (l .voice1))
-    (λ v1. andThen (voiceIn f (l .voice2))
-    (λ v2. andThen (voiceIn f (l .voice3)) (λ v3. accepted (songWith l v1 v2 v3)))) s (right .gives) in
-    let two = then-given (voiceIn f (l .voice2))
-    (λ v2. andThen (voiceIn f (l .voice3)) (λ v3. accepted (songWith l (one .value) v2 v3))) s (one .gives) in
-    let three = then-given (voiceIn f (l .voice3)) (λ v3. accepted (songWith l (one .value) (two .value) v3)) s (two .gives) in
+    let one = then-given (voiceIn pairs f (l .voice1))
+    (λ v1. andThen (voiceIn pairs f (l .voice2))
+    (λ v2. andThen (voiceIn pairs f (l .voice3)) (λ v3. accepted (songWith l v1 v2 v3)))) s (right .gives) in
+    let two = then-given (voiceIn pairs f (l .voice2))
+    (λ v2. andThen (voiceIn pairs f (l .voice3)) (λ v3. accepted (songWith l (one .value) v2 v3))) s (one .gives) in
+    let three = then-given (voiceIn pairs f (l .voice3)) (λ v3. accepted (songWith l (one .value) (two .value) v3)) s (two .gives) in
     let first = voice-passes (l .voice1 .from) (partOf f (l .voice1)) (one .value) (one .was) in
     let second = voice-passes (l .voice2 .from) (partOf f (l .voice2)) (two .value) (two .was) in
     let third = voice-passes (l .voice3 .from) (partOf f (l .voice3)) (three .value) (three .was) in

@@ -2,6 +2,7 @@
 -- voice-once                no two answers have the same outcome
 -- number-first, file-next   41 by the number, then the outcome of the file
 -- Asked, asked-accepted     any other answer is the voice of that number, of an accepted file
+-- voice-bytes               a voice's bytes are those that the container gives it
 -- in-song, asked-in-song    each voice of a song, and the voice that is asked for, is as acceptance has
 --                           reported it (InSong)
 use Prim.Native.Nat.{ℕ, zero, suc, _≤_}
@@ -26,7 +27,7 @@ use Rattle.mus.specs.declared.VoiceAnswer.{VoiceAnswer}
 use Rattle.mus.specs.declared.VoiceAnswer.the-variants.{Accepted, Refused}
 use Rattle.mus.specs.Voices.{outcomeOfVoice}
 use Rattle.mus.specs.Song.{musOutcome}
-use Rattle.mus.specs.Asked.{numberTests, songVoice, voiceAsked}
+use Rattle.mus.specs.Asked.{numberTests, songVoice, askedBy, voiceAsked, bytesOf, spanAt}
 use Rattle.mus.specs.Acceptance.{Passes, voiceReport, songOf, accepted-clear, then-given}
 use Rattle.mus.specs.Bounds.{InSong}
 
@@ -48,17 +49,17 @@ pub record Asked (f : List ℕ) (n : ℕ) (v : Voice) : Type 0 where
 module _ (f : List ℕ) (n : ℕ) where
   -- A number that is not 1 to 3 is 41, whatever the file ('41 voice not 1 to 3').
   pub number-first : ltb n 1 || ltb 3 n ≡ true → voiceAsked f n ≡ refused 41 0
-  unfolding voiceAsked
+  unfolding askedBy
   number-first e = rw e
 
   -- For 1 to 3 the outcome is that of the file, and of an accepted one the voice with that number.
   pub file-next : ltb n 1 || ltb 3 n ≡ false → voiceAsked f n ≡ andThen (musOutcome f) (λ s. accepted (songVoice s n))
-  unfolding voiceAsked
+  unfolding askedBy
   file-next e = rw e
 
   -- An answer with a voice is as Asked says.
   pub asked-accepted : (v : Voice) → voiceAsked f n ≡ accepted v → Asked f n v
-  unfolding voiceAsked
+  unfolding askedBy
   asked-accepted v e =
       let passed = guarded-passed (firstOf (numberTests n)) (andThen (musOutcome f) (λ s. accepted (songVoice s n))) v e in
       let given = then-given (musOutcome f) (λ s. accepted (songVoice s n)) v (passed .1) in
@@ -72,6 +73,17 @@ take-own : (n : ℕ) (l : List ℕ) → take (length (take n l)) l ≡ take n l
 take-own zero l = refl
 take-own (suc n) [] = refl
 take-own (suc n) (x ∷ l) = ap (λ (r : List ℕ). x ∷ r) (take-own n l)
+
+-- The bytes of a voice of an accepted file, by its number, are those that the container gives this voice.
+pub voice-bytes : (f : List ℕ) (s : Song) (n : ℕ) → musOutcome f ≡ accepted s
+    → bytesOf f (songVoice s n) ≡ partOf f (spanAt (layoutOf f) n)
+unfolding songOf
+voice-bytes f s n e =
+    let l = layoutOf f in
+    let own : (x : Span) → take (length (partOf f x)) (drop (x .from) f) ≡ partOf f x = λ x. take-own (x .len) (drop (x .from) f) in
+    subst (λ (x : Song). bytesOf f (songVoice x n) ≡ partOf f (spanAt l n)) (accepted-clear f s e .1)
+    (cases (eqb n 1) (λ a. rw a (own (l .voice1)))
+    (λ a. cases (eqb n 2) (λ b. rw (a, b) (own (l .voice2))) (λ b. rw (a, b) (own (l .voice3)))))
 
 -- a voice where its span lies; 23 lets no voice of 0 or an odd number of bytes pass
 span-in : (f : List ℕ) (s : Span) → Passes (pairs (partOf f s)) → length f ≤ 65536 → VoiceFits f s

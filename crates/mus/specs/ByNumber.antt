@@ -28,8 +28,8 @@ use Rattle.structure.specs.Tests.{Nesting, start}
 use Rattle.structure.specs.Findings.{foundAt, firstAt, pairsTests, nestingsTests, pairsFinding, structureFinding}
 use Rattle.counts.specs.declared.Counted.the-variants.{Within}
 use Rattle.counts.specs.Limits.{limitTests, unlessOff, countOutcome}
-use Rattle.mus.specs.Voices.{orFound, limited, voiceOutcome}
-use Rattle.mus.specs.Song.{voiceIn, songWith, songIn, musOutcome}
+use Rattle.mus.specs.Voices.{orFound, limited, voiceBy, voiceOutcome}
+use Rattle.mus.specs.Song.{voiceIn, songWith, songIn, songBy, musOutcome}
 
 abbrev pub Above : {A : Type 0} → ℕ → Outcome A → Type 0
 Above k (accepted a) = Unit
@@ -75,7 +75,7 @@ limited-above offset len v = go (firstOf (limitTests v)) refl
 
 -- A voice is refused with a number above 26, or accepted.
 pub voice-above : (offset : ℕ) (bs : List ℕ) → Above 26 (voiceOutcome offset bs)
-unfolding voiceOutcome pairsFinding structureFinding
+unfolding voiceBy pairsFinding structureFinding
 voice-above offset bs =
     let v = pairs bs in
     or-found-above offset (pairsFinding v) (orFound offset (structureFinding v) (limited offset (length bs) (countOutcome v))) (found-late 0 (pairsTests v) (pairs-late v))
@@ -92,19 +92,19 @@ lower (accepted a) l = tt
 lower (refused n p) l = omega arith
 
 module _ (f : List ℕ) where
-  span-above : (s : Span) → Above 24 (voiceIn f s)
-  span-above s = lower (voiceIn f s) (voice-above _ _)
+  span-above : (s : Span) → Above 24 (voiceIn pairs f s)
+  span-above s = lower (voiceIn pairs f s) (voice-above _ _)
 
-  song-above : (l : Layout) → Above 24 (songIn f l)
+  song-above : (l : Layout) → Above 24 (songIn (voiceIn pairs f) l)
   song-above l =
-      then-above (voiceIn f (l .voice1)) (λ v1. andThen (voiceIn f (l .voice2)) (λ v2. andThen (voiceIn f (l .voice3)) (λ v3. accepted (songWith l v1 v2 v3)))) (span-above (l .voice1))
-      (λ v1. then-above (voiceIn f (l .voice2)) (λ v2. andThen (voiceIn f (l .voice3)) (λ v3. accepted (songWith l v1 v2 v3))) (span-above (l .voice2))
-      (λ v2. then-above (voiceIn f (l .voice3)) (λ v3. accepted (songWith l v1 v2 v3)) (span-above (l .voice3)) (λ v3. tt)))
+      then-above (voiceIn pairs f (l .voice1)) (λ v1. andThen (voiceIn pairs f (l .voice2)) (λ v2. andThen (voiceIn pairs f (l .voice3)) (λ v3. accepted (songWith l v1 v2 v3)))) (span-above (l .voice1))
+      (λ v1. then-above (voiceIn pairs f (l .voice2)) (λ v2. andThen (voiceIn pairs f (l .voice3)) (λ v3. accepted (songWith l v1 v2 v3))) (span-above (l .voice2))
+      (λ v2. then-above (voiceIn pairs f (l .voice3)) (λ v3. accepted (songWith l v1 v2 v3)) (span-above (l .voice3)) (λ v3. tt)))
 
   -- A file to whose head none of 21 to 24 applies is refused with a number above 24, or accepted.
   pub head-above : (v : Voices) → headOutcome f ≡ accepted v → Above 24 (musOutcome f)
-  unfolding musOutcome
-  head-above v e = then-above (containerOutcome f) (λ l. songIn f l) (go (containerOutcome f) refl) song-above
+  unfolding songBy
+  head-above v e = then-above (containerOutcome f) (λ l. songIn (voiceIn pairs f) l) (go (containerOutcome f) refl) song-above
     where
       go : (o : Outcome Layout) → containerOutcome f ≡ o → Above 24 o
       go (accepted l) q = tt

@@ -69,7 +69,7 @@ fn accept_voice(voice: &[u8], offset: usize) -> VoiceAnswer
 
 fn accept_span(file: &[u8], span: Span) -> VoiceAnswer
     requires { ⌜ (length (now file) ≤ 65536) × (span .from ≤ 65536) ⌝ }
-    ensures { λ r. ⌜ outcomeOfVoice r ≡ voiceIn (now (file .entry)) span ⌝ }
+    ensures { λ r. ⌜ outcomeOfVoice r ≡ voiceIn pairs (now (file .entry)) span ⌝ }
 {
     let from = span.from;
     let len = span.len;
@@ -79,7 +79,7 @@ fn accept_span(file: &[u8], span: Span) -> VoiceAnswer
 // internal: voice 1, 2, 3.
 pub fn accept_voices(file: &[u8], l: Layout) -> Reading
     requires { ⌜ InFile (now file) l ⌝ }
-    ensures { λ r. ⌜ outcomeOfSong r ≡ songIn (now (file .entry)) l ⌝ }
+    ensures { λ r. ⌜ outcomeOfSong r ≡ songIn (voiceIn pairs (now (file .entry))) l ⌝ }
 {
     match accept_span(file, l.voice1) {
         VoiceAnswer::Refused(x) => Reading::Refused(x),

@@ -15,7 +15,7 @@ use Rattle.bodies.proofs.Related.{events-walked}
 use Rattle.mus.specs.Song.{musOutcome}
 use Rattle.mus.specs.Asked.{songVoice, bytesOf}
 use Rattle.mus.specs.AskedLaws.{in-song}
-use Rattle.events.specs.Listing.{playedIn, countOf, Listing, listing}
+use Rattle.events.specs.Listing.{playedBy, playedIn, countOf, Listing, listing}
 use Rattle.events.specs.Laws.{accepted-window}
 use Rattle.answers.specs.Apart.{Apart, low-apart}
 use Rattle.muscalls.specs.Lists.{songNumbers}
@@ -28,7 +28,7 @@ same e = cc
 module _ (f : List ℕ) where
   -- a voice has at most 1,048,576 events
   list-apart : (voice first : ℕ) (os js : List ℕ) → Apart (λ count. count) (listing f voice first os js .answer)
-  unfolding playedIn eventsOf
+  unfolding playedBy eventsOf
   list-apart voice first os js = low-apart (λ count. count) (listing f voice first os js .answer) few (list-low f voice first os js)
     where
       few : (count : ℕ) → listing f voice first os js .answer ≡ accepted count → count < 0x100000000

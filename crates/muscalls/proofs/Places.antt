@@ -27,12 +27,12 @@ use Rattle.structure.specs.Laws.{pairs-within, structure-within}
 use Rattle.counts.specs.declared.Counted.the-variants.{Within}
 use Rattle.counts.specs.Limits.{limitTests, unlessOff, countOutcome}
 use Rattle.mus.specs.declared.Voice.{Voice}
-use Rattle.mus.specs.Voices.{orFound, limited, voiceOutcome}
-use Rattle.mus.specs.Song.{voiceIn, songWith, songIn, musOutcome}
-use Rattle.mus.specs.Asked.{numberTests, songVoice, voiceAsked}
+use Rattle.mus.specs.Voices.{orFound, limited, voiceBy}
+use Rattle.mus.specs.Song.{voiceIn, songWith, songIn, songBy, musOutcome}
+use Rattle.mus.specs.Asked.{numberTests, songVoice, askedBy, voiceAsked}
 use Rattle.mus.specs.Bounds.{InFile}
 use Rattle.mus.proofs.Outcomes.{in-file}
-use Rattle.events.specs.Listing.{callerTests, filledBy, listing}
+use Rattle.events.specs.Listing.{callerTests, playedIn, filledBy, listingBy, listing}
 use Rattle.answers.specs.Apart.{LowPlace, tests-low}
 use Rattle.muscalls.proofs.Numbers.{found-above}
 
@@ -53,8 +53,8 @@ limited-low offset len v h = go (firstOf (limitTests v)) refl
     go (Failed n) e = (first-above (limitTests v) n e, h)
 
 -- a pair of a voice lies in the file
-voice-low : (f : List ℕ) (s : Span) → length f ≤ 65536 → s .from ≤ 65536 → LowPlace (voiceIn f s)
-unfolding voiceOutcome pairsFinding structureFinding
+voice-low : (f : List ℕ) (s : Span) → length f ≤ 65536 → s .from ≤ 65536 → LowPlace (voiceIn pairs f s)
+unfolding voiceBy pairsFinding structureFinding
 voice-low f s short low =
     let v = pairs (partOf f s) in
     found-low (s .from) (pairsFinding v) (orFound (s .from) (structureFinding v) (limited (s .from) (length (partOf f s)) (countOutcome v))) (λ n i e. (found-above 0 (pairsTests v) n i e, inside i (pairs-within v n i e)))
@@ -65,25 +65,25 @@ voice-low f s short low =
     inside i h = omega (arith, length-pairs (partOf f s), length-take (s .len) (drop (s .from) f), length-drop (s .from) f)
 
 pub mus-low : (f : List ℕ) → LowPlace (musOutcome f)
-unfolding musOutcome containerOutcome
-mus-low f = then-low (containerOutcome f) (λ l. songIn f l) (tests-low (containerTests f) (accepted (layoutOf f)) tt) (λ l e. song-low l (in-file f l e))
+unfolding songBy containerOutcome
+mus-low f = then-low (containerOutcome f) (λ l. songIn (voiceIn pairs f) l) (tests-low (containerTests f) (accepted (layoutOf f)) tt) (λ l e. song-low l (in-file f l e))
   where
-    song-low : (l : Layout) → InFile f l → LowPlace (songIn f l)
+    song-low : (l : Layout) → InFile f l → LowPlace (songIn (voiceIn pairs f) l)
     song-low l i =
-        then-low (voiceIn f (l .voice1)) (λ v1. andThen (voiceIn f (l .voice2)) (λ v2. andThen (voiceIn f (l .voice3)) (λ v3. accepted (songWith l v1 v2 v3)))) (voice-low f (l .voice1) (i .short) (i .voice1))
-        (λ v1 e1. then-low (voiceIn f (l .voice2)) (λ v2. andThen (voiceIn f (l .voice3)) (λ v3. accepted (songWith l v1 v2 v3))) (voice-low f (l .voice2) (i .short) (i .voice2))
-        (λ v2 e2. then-low (voiceIn f (l .voice3)) (λ v3. accepted (songWith l v1 v2 v3)) (voice-low f (l .voice3) (i .short) (i .voice3)) (λ v3 e3. tt)))
+        then-low (voiceIn pairs f (l .voice1)) (λ v1. andThen (voiceIn pairs f (l .voice2)) (λ v2. andThen (voiceIn pairs f (l .voice3)) (λ v3. accepted (songWith l v1 v2 v3)))) (voice-low f (l .voice1) (i .short) (i .voice1))
+        (λ v1 e1. then-low (voiceIn pairs f (l .voice2)) (λ v2. andThen (voiceIn pairs f (l .voice3)) (λ v3. accepted (songWith l v1 v2 v3))) (voice-low f (l .voice2) (i .short) (i .voice2))
+        (λ v2 e2. then-low (voiceIn pairs f (l .voice3)) (λ v3. accepted (songWith l v1 v2 v3)) (voice-low f (l .voice3) (i .short) (i .voice3)) (λ v3 e3. tt)))
 
 asked-low : (f : List ℕ) (voice : ℕ) → LowPlace (voiceAsked f voice)
-unfolding voiceAsked
+unfolding askedBy
 asked-low f voice =
     tests-low (numberTests voice) (andThen (musOutcome f) (λ s. accepted (songVoice s voice))) (then-low (musOutcome f) (λ s. accepted (songVoice s voice)) (mus-low f) (λ s e. tt))
 
 pub list-low : (f : List ℕ) (voice first : ℕ) (os js : List ℕ) → LowPlace (listing f voice first os js .answer)
-unfolding listing
+unfolding listingBy
 list-low f voice first os js =
     go (guarded (firstOf (callerTests voice (length os) (length js))) (voiceAsked f voice)) (tests-low (callerTests voice (length os) (length js)) (voiceAsked f voice) (asked-low f voice))
   where
-    go : (o : Outcome Voice) → LowPlace o → LowPlace (filledBy f first os js o .answer)
+    go : (o : Outcome Voice) → LowPlace o → LowPlace (filledBy (playedIn f) first os js o .answer)
     go (accepted v) l = tt
     go (refused n p) l = l

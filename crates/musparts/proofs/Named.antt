@@ -35,8 +35,8 @@ use Rattle.structure.specs.Laws.{pairs-within, structure-within}
 use Rattle.counts.specs.declared.Counted.{Counted}
 use Rattle.counts.specs.declared.Counted.the-variants.{Within, Off}
 use Rattle.counts.specs.Limits.{countOutcome}
-use Rattle.mus.specs.Voices.{orFound, limited, voiceOutcome}
-use Rattle.mus.specs.Song.{voiceIn, songIn, musOutcome}
+use Rattle.mus.specs.Voices.{orFound, limited, voiceBy}
+use Rattle.mus.specs.Song.{voiceIn, songIn, songBy, musOutcome}
 use Rattle.musparts.specs.Laws.{part-length, head-right}
 use Rattle.musparts.specs.Named.{voiceSpan, PairNamed, PlacesNamed}
 
@@ -59,8 +59,8 @@ limited-placed : (s : Span) (len : ℕ) (c : Counted) → 0 < s .len / 2 → Pla
 limited-placed s len (Within events walked) h = tt
 limited-placed s len (Off n) h = record { pair = 0; stored = h; stands = omega arith }
 
-voice-placed : (f : List ℕ) (s : Span) → VoiceFits f s → Placed s (voiceIn f s)
-unfolding voiceOutcome
+voice-placed : (f : List ℕ) (s : Span) → VoiceFits f s → Placed s (voiceIn pairs f s)
+unfolding voiceBy
 voice-placed f s fits =
     let v = pairs (partOf f s) in
     let many = length-pairs (partOf f s) in
@@ -98,29 +98,29 @@ module _ (f : List ℕ) (n p : ℕ) where
   names : (k : ℕ) (v : Voices) → (1 ≤ k) × (k ≤ 3) → PairAt (voiceSpan v k) p → PairNamed v p
   names k v within at = record { voice = k; pair = at .pair; number = within; stored = at .stored; stands = at .stands }
 
-  voices-named : songIn f (layoutOf f) ≡ refused n p → VoiceFits f (layoutOf f .voice1) → VoiceFits f (layoutOf f .voice2)
+  voices-named : songIn (voiceIn pairs f) (layoutOf f) ≡ refused n p → VoiceFits f (layoutOf f .voice1) → VoiceFits f (layoutOf f .voice2)
       → VoiceFits f (layoutOf f .voice3) → PairNamed (voicesOf (headOf f)) p
   unfolding layoutOf
   voices-named e fits1 fits2 fits3 =
       let l = layoutOf f in
       let v = voicesOf (headOf f) in
-      by-part (voiceIn f (l .voice1)) _ n p e
+      by-part (voiceIn pairs f (l .voice1)) _ n p e
       (λ q. names 1 v (lit≤ tt, lit≤ tt) (placed-at (l .voice1) _ (voice-placed f (l .voice1) fits1) q))
-      (λ v1 o1 e1. by-part (voiceIn f (l .voice2)) _ n p e1
+      (λ v1 o1 e1. by-part (voiceIn pairs f (l .voice2)) _ n p e1
       (λ q. names 2 v (lit≤ tt, lit≤ tt) (placed-at (l .voice2) _ (voice-placed f (l .voice2) fits2) q))
-      (λ v2 o2 e2. by-part (voiceIn f (l .voice3)) _ n p e2
+      (λ v2 o2 e2. by-part (voiceIn pairs f (l .voice3)) _ n p e2
       (λ q. names 3 v (lit≤ tt, lit≤ tt) (placed-at (l .voice3) _ (voice-placed f (l .voice3) fits3) q))
       (λ v3 o3 e3. absurd (two-ways (sym e3)))))
 
   named : musOutcome f ≡ refused n p → 26 < n
       → (headOutcome f ≡ accepted (voicesOf (headOf f))) × PairNamed (voicesOf (headOf f)) p
-  unfolding musOutcome
+  unfolding songBy
   named e late =
-      by-part (containerOutcome f) (λ l. songIn f l) n p e
+      by-part (containerOutcome f) (λ l. songIn (voiceIn pairs f) l) n p e
       (λ q. absurd (omega (arith, container-number f n p q)))
       (λ l q r.
       let none = layout-none f l q in
-      let right = subst (λ (x : Layout). songIn f x ≡ refused n p) (sym (layout-of f l q)) r in
+      let right = subst (λ (x : Layout). songIn (voiceIn pairs f) x ≡ refused n p) (sym (layout-of f l q)) r in
       (head-right f none, voices-named right (voice1-fits f none) (voice2-fits f none) (voice3-fits f none)))
 
 module _ (f : List ℕ) where

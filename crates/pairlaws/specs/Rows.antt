@@ -2,7 +2,7 @@
 -- are those that document 01 lists; of first bytes also the notes' and 01, which have their own tables.
 -- holding, rowsFitting   how many rows a byte fits, after 01 and as a first byte
 -- seconds-apart          no second byte after 01 fits two rows
--- unassignedSeconds, seconds-unassigned   'Unassigned: 53 6F 7F 83 8B 9F BF CF FF', after 01
+-- unassignedSeconds, seconds-unassigned   'Unassigned: 53 6F 7F 9F BF CF FF' as corrected, after 01
 -- others, firsts-apart   no first byte fits two rows of the other table
 -- unassignedFirst, firsts-unassigned      notes' first bytes and 01; and 'Unassigned: low bits 01 other than
 --                                         01, and 8E AE CE EE'
@@ -30,7 +30,7 @@ pub seconds-apart : (b : ℕ) → b < 256 → holding rows b ≤ 1
 seconds-apart b h = leb→le (holding rows b) 1 (every-at (λ k. leb (holding rows k) 1) 256 tt b h)
 
 abbrev pub unassignedSeconds : List ℕ
-unassignedSeconds = 0x53 ∷ 0x6F ∷ 0x7F ∷ 0x83 ∷ 0x8B ∷ 0x9F ∷ 0xBF ∷ 0xCF ∷ 0xFF ∷ []
+unassignedSeconds = 0x53 ∷ 0x6F ∷ 0x7F ∷ 0x9F ∷ 0xBF ∷ 0xCF ∷ 0xFF ∷ []
 
 -- A second byte after 01 fits no row exactly when document 01 lists it as unassigned.
 pub seconds-unassigned : (b : ℕ) → b < 256 → eqb (holding rows b) 0 ≡ among unassignedSeconds b

@@ -1,4 +1,5 @@
-// Commands with an unsigned value: the last that has a pair, and the next.
+// Commands with an unsigned value: the last that has a pair, and the next. Of CAL and DEF also 15 to 17: from
+// 16 on they stand in other rows.
 use crate::show;
 use meaning::Meaning;
 

@@ -3,7 +3,8 @@
 -- bumped              BMP: 03 UP, 0B DN
 -- switched, onlyYes   NO and YES, each with its second byte; 3-0, which has YES alone
 -- counted             first byte 01, the value in the second byte's upper bits
--- phrase              CAL and DEF: 0 to 15 in one row, 17 to 23 in another
+-- phraseFrom, phrase  CAL and DEF: 0 to 15 in one row, 16 and a least number to 23 in another; that least
+--                     number is 0
 -- destination         DST: '000=0, 010=1, 101=2, 110=3'
 -- alone               'Second byte is the value'
 -- joined              'the first byte's bits stand above the second byte'
@@ -38,9 +39,12 @@ onlyYes false on = noBytes
 abbrev pub counted : ℕ → ℕ → ℕ → ℕ → Outcome Bytes
 counted v most base step = cond (leb v most) (pair 1 (base + step * v)) noBytes
 
+abbrev pub phraseFrom : ℕ → ℕ → ℕ → ℕ → Outcome Bytes
+phraseFrom least v low high =
+    cond (leb v 15) (pair 1 (low + 16 * v)) (cond (leb (16 + least) v && leb v 23) (pair 1 (high + 16 * (v - 16))) noBytes)
+
 abbrev pub phrase : ℕ → ℕ → ℕ → Outcome Bytes
-phrase v low high =
-    cond (leb v 15) (pair 1 (low + 16 * v)) (cond (leb 17 v && leb v 23) (pair 1 (high + 16 * (v - 16))) noBytes)
+phrase v low high = phraseFrom 0 v low high
 
 abbrev pub destination : ℕ → Outcome Bytes
 destination v =

@@ -57,7 +57,7 @@ pub fn counted(v: u16, most: u16, base: u16, step: u16) -> Spelling
     }
 }
 
-// internal: a phrase's number, 0 to 15 and 17 to 23.
+// internal: a phrase's number, 0 to 23.
 pub fn phrase(v: u16, low: u16, high: u16) -> Spelling
     requires { ⌜ (low < 16) × (high < 144) ⌝ }
     ensures { λ r. ⌜ outcomeOfBytes r ≡ phrase v low high ⌝ }
@@ -65,7 +65,7 @@ pub fn phrase(v: u16, low: u16, high: u16) -> Spelling
     if v <= 15 {
         return Spelling::Bytes(1, (low + 16 * v) as u8);
     }
-    if (17 <= v) & (v <= 23) {
+    if v <= 23 {
         Spelling::Bytes(1, (high + 16 * (v - 16)) as u8)
     } else {
         none()

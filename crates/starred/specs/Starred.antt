@@ -7,8 +7,8 @@
 -- word                    a number as two bytes, high byte first
 -- rsidFile                an RSID file of 130 bytes, BASIC clear, by its init field and load address
 -- Holds                   what a sum says
--- starred                 the table, in the paper's order; of RSID the effective init by the field, then by
---                         the load address where the field is 0
+-- starred                 the table, in the paper's order, 01 83 as corrected by request (ii); of RSID the
+--                         effective init by the field, then by the load address where the field is 0
 -- AllHold, starred-hold   each sum of the table is right
 use Prim.Native.Nat.{ℕ, _/_, _%_}
 use mathlib.Core.Path.{_≡_, refl as ok}
@@ -35,7 +35,7 @@ use Rattle.meaning.specs.declared.Pitch.{Pitch}
 use Rattle.meaning.specs.declared.Tone.{Tone}
 use Rattle.meaning.specs.declared.Tone.the-variants.{Sounds}
 use Rattle.meaning.specs.declared.Meaning.{Meaning}
-use Rattle.meaning.specs.declared.Meaning.the-variants.{Note, Ps, Tps, Rtp}
+use Rattle.meaning.specs.declared.Meaning.the-variants.{Note, Def, Ps, Tps, Rtp}
 use Rattle.meaning.specs.Pitches.{stepOutcome}
 use Rattle.note.specs.Reading.{toneOf, noteOf}
 use Rattle.pair.specs.Pairs.{meaningOf}
@@ -103,7 +103,7 @@ starred =
     ∷ sounds 0xF9 (pitch C Flat 0) (negsuc 0)
     ∷ sounds 0x47 (pitch B Sharp 7) (pos 96)
     ∷ means 0x6E 0xF8 (refused 28 0)
-    ∷ means 0x01 0x83 (refused 27 0)
+    ∷ means 0x01 0x83 (accepted (Def 16))
     ∷ rsid 0x07E8 0x07E8 0x1000 Passed
     ∷ rsid 0x9FFF 0x9FFF 0x1000 Passed
     ∷ rsid 0x07E7 0x07E7 0x1000 (Failed 12)

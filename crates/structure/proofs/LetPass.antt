@@ -40,7 +40,7 @@ pair-means (refused n p) last v bad t h =
     absurd (⊎-elim (λ e. differ (sym (t .0) ∙ eq-eqb n 27 e)) (λ e. differ (sym (t .1 .0) ∙ eq-eqb n 28 e)) (bad n refl))
 
 pub all-mean : (bs : List ℕ) → AllNone (pairsTests (voice.pairs bs)) → AllMean (voice.pairs bs)
-unfolding voice.pairs pairsTests AllNone AllMean
+unfolding voice.pairsBy voice.pairs pairsTests AllNone AllMean
 all-mean [] t = tt
 all-mean (a ∷ []) t = tt
 all-mean (a ∷ b ∷ bs) t =

@@ -108,6 +108,7 @@ fn write_command(name: &[u8], value: i32) {
 fn write_meaning(meaning: Meaning) {
     match meaning {
         Meaning::Note(note) => write_note(note),
+        Meaning::Def(v) => write_command(b"DEF ", v as i32),
         Meaning::Ps(z) => write_command(b"P-S ", z),
         Meaning::Tps(z) => write_command(b"TPS ", z),
         Meaning::Rtp(z) => write_command(b"RTP ", z),

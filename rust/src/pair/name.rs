@@ -60,7 +60,7 @@ pub enum Name {
     Dcy = 0x300,
     /// `RUP`: 0 to 31.
     Rup = 0x301,
-    /// `CAL`: 0 to 15, 17 to 23.
+    /// `CAL`: 0 to 23.
     Cal = 0x302,
     /// `BMP`: 0 is UP, 1 DN.
     Bmp = 0x303,
@@ -68,7 +68,7 @@ pub enum Name {
     Atk = 0x304,
     /// `RDN`: 0 to 31.
     Rdn = 0x305,
-    /// `DEF`: 0 to 15, 17 to 23.
+    /// `DEF`: 0 to 23.
     Def = 0x306,
     /// `WAV`: 0 to 7.
     Wav = 0x307,

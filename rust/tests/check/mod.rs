@@ -8,9 +8,11 @@
 // The library's functions themselves: the wrappers drop bits that these must not have.
 #[path = "../../src/raw.rs"]
 mod raw;
+mod sixteen;
 
 use crate::make::rng::Rng;
 use crate::plain;
+use sixteen::Sixteen;
 use std::fmt::Write;
 use turftangle::Refusal;
 
@@ -165,6 +167,8 @@ pub struct Checker {
     tallies: [Tally; Call::ALL.len()],
     /// How often `tt_kind` gave each kind.
     kinds: [u64; 5],
+    /// How often phrase 16 came in the songs of `tt_mus_accept`.
+    pub sixteen: Sixteen,
     phrases: plain::reason::Phrases,
     memory: Twin<u8>,
     bytes: Twin<u8>,
@@ -177,6 +181,7 @@ impl Checker {
         let mut checker = Checker {
             tallies: [[0; 55]; Call::ALL.len()],
             kinds: [0; 5],
+            sixteen: Sixteen::default(),
             phrases: plain::reason::Phrases::new(),
             memory: Twin::new(),
             bytes: Twin::new(),
@@ -274,7 +279,9 @@ impl Checker {
         let plain = of_plain(plain::mus::accept_into(file, theirs));
         let arguments = || format!(" into {length}");
         let lists = self.one.same();
-        self.judge(Call::MusAccept, arguments, [library], plain, lists)
+        self.judge(Call::MusAccept, arguments, [library], plain, lists)?;
+        self.sixteen.count(file, plain.err());
+        Ok(())
     }
 
     pub fn mus_load(&mut self, file: &[u8]) -> Checked {
@@ -421,6 +428,9 @@ impl Checker {
                 }
             }
             told.push('\n');
+        }
+        if self.tally(Call::MusAccept).iter().any(|&count| count > 0) {
+            let _ = writeln!(told, "{}", self.sixteen);
         }
         told
     }

@@ -7,12 +7,14 @@ pub const END: [u8; 2] = [0x01, 0x2F];
 pub const HLT: [u8; 2] = [0x01, 0x4F];
 /// The most pairs that a voice may walk.
 const LIMIT: usize = 1_048_576;
+/// How many phrases a voice can have: their numbers are 0 to 23.
+const PHRASES: usize = 24;
 
 pub fn head(n: usize) -> [u8; 2] {
     [0x36, n as u8]
 }
 
-/// 0 to 15 stand in the n6 row, 17 to 23 as 9 to F in the n3 row.
+/// 0 to 15 stand in the n6 row, 16 to 23 as 8 to F in the n3 row.
 pub fn define(k: usize) -> [u8; 2] {
     [
         0x01,
@@ -20,7 +22,7 @@ pub fn define(k: usize) -> [u8; 2] {
     ]
 }
 
-/// 0 to 15 stand in the n2 row, 17 to 23 as 9 to F in the nB row.
+/// 0 to 15 stand in the n2 row, 16 to 23 as 8 to F in the nB row.
 pub fn call(k: usize) -> [u8; 2] {
     [
         0x01,
@@ -32,14 +34,9 @@ pub fn call(k: usize) -> [u8; 2] {
     ]
 }
 
-/// A phrase number: 0 to 15 or 17 to 23.
+/// A phrase number.
 pub fn phrase(rng: &mut Rng) -> usize {
-    let k = rng.below(23);
-    if k < 16 {
-        k
-    } else {
-        k + 1
-    }
+    rng.below(PHRASES)
 }
 
 /// Puts a file together.
@@ -128,7 +125,7 @@ impl<'a> Maker<'a> {
         Maker {
             rng,
             pairs: Vec::new(),
-            fresh: (0..24).filter(|&k| k != 16).collect(),
+            fresh: (0..PHRASES).collect(),
             closed: Vec::new(),
         }
     }
@@ -208,7 +205,7 @@ impl<'a> Maker<'a> {
 
     /// Phrases, each of which calls the one before, once or more.
     fn chain(&mut self) {
-        let length = self.rng.between(2, 22);
+        let length = self.rng.between(2, PHRASES);
         let most = self.rng.pick(&[1, 1, 2, 3]);
         for _ in 0..length {
             let before = self.closed.last().copied();

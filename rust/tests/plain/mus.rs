@@ -37,9 +37,9 @@ fn role(first: u8, second: u8) -> Role {
     let number = usize::from(second >> 4);
     match second & 0x0F {
         0x2 => Role::Call(number),
-        0xB if number >= 9 => Role::Call(number + 8),
+        0xB if number >= 8 => Role::Call(number + 8),
         0x6 => Role::Define(number),
-        0x3 if number >= 9 => Role::Define(number + 8),
+        0x3 if number >= 8 => Role::Define(number + 8),
         0xF if number == 0 => Role::Tail,
         0xF if number == 2 => Role::End,
         0xF if number == 4 => Role::Halt,

@@ -214,13 +214,12 @@ fn read_second(second: u8) -> Result<(Command, i32), u32> {
         0x0 => (Dcy, high),
         0x1 | 0x9 => (Rup, five),
         0x2 => (Cal, high),
-        0x3 if high >= 9 => (Def, high + 8),
-        0xB if high >= 9 => (Cal, high + 8),
-        0x3 => (
-            switch(high).filter(|&c| c != ThreeOff).ok_or(UNASSIGNED)?,
-            0,
-        ),
-        0xB => (switch(high).ok_or(UNASSIGNED)?, 1),
+        // the pattern 1nnn holds, not its remark: 8 to F are 16 to 23
+        0x3 if high >= 8 => (Def, high + 8),
+        0xB if high >= 8 => (Cal, high + 8),
+        0x3 if switch(high) == ThreeOff => return Err(UNASSIGNED),
+        0x3 => (switch(high), 0),
+        0xB => (switch(high), 1),
         0x4 | 0xC if second & 0x80 == 0 => (Atk, five),
         0x4 | 0xC => (Sus, five - 16),
         0x5 | 0xD => (Rdn, five),
@@ -234,9 +233,9 @@ fn read_second(second: u8) -> Result<(Command, i32), u32> {
     })
 }
 
-/// The commands with two values, by the high nibble of the n3 and nB rows.
-fn switch(high: i32) -> Option<Command> {
-    Some(match high {
+/// The commands with two values, by the high nibble of the n3 and nB rows, which is below 8.
+fn switch(high: i32) -> Command {
+    match high {
         0 => Bmp,
         1 => Flt,
         2 => Rng,
@@ -244,9 +243,8 @@ fn switch(high: i32) -> Option<Command> {
         4 => FX,
         5 => ThreeOff,
         6 => Lfo,
-        7 => PV,
-        _ => return None,
-    })
+        _ => PV,
+    }
 }
 
 /// The nF row.
@@ -406,25 +404,24 @@ fn write_command(command: Command, value: i32) -> Result<[u8; 2], u32> {
         Jif => split(0x3E, 6, value & 0x3FF),
         Dtn if value < 0 => split(0x1A, 5, value + 2048),
         Dtn => split(0x0A, 5, value),
-        _ if command as u16 >= 0x300 => [0x01, write_second(command, byte)?],
+        _ if command as u16 >= 0x300 => [0x01, write_second(command, byte)],
         _ => [command as u8, byte],
     })
 }
 
 /// The second byte after 01.
-fn write_second(command: Command, value: u8) -> Result<u8, u32> {
+fn write_second(command: Command, value: u8) -> u8 {
     let low = command as u8;
-    Ok(match command {
-        Cal | Def if value == 16 => return Err(NO_PAIR),
-        Cal if value > 16 => (value - 8) << 4 | 0x0B,
-        Def if value > 16 => (value - 8) << 4 | 0x03,
+    match command {
+        Cal if value >= 16 => (value - 8) << 4 | 0x0B,
+        Def if value >= 16 => (value - 8) << 4 | 0x03,
         Bmp | Flt | Rng | Snc | FX | Lfo | PV => low | value << 3,
         ThreeOff | Tal | End | Hlt => low,
         Rup | Rdn | Atk | Sus => low | value << 3,
         Wav | FM | Src => low | value << 5,
         Dst => [0x8F, 0xAF, 0xDF, 0xEF][value as usize],
         _ => low | value << 4,
-    })
+    }
 }
 
 fn write_tps(value: i32) -> u8 {

@@ -7,7 +7,7 @@ returns : tie.Need-returns
 returns c = rw (le-leb _ _ (c .if1 .taken))
 
 returns-2 : tie.Need-returns-2
-returns-2 c = rw (lt-leb _ _ (c .before .if1 .left), c .event-unless .ensures)
+returns-2 c = rw (lt-leb _ _ (c .if1 .left))
 
 pub row-b-spec : {M : Type 1} → statement M
-row-b-spec = tie.close (tie.spec (λ c. search needs) (λ c κs. search needs) returns returns-2)
+row-b-spec = tie.close (tie.spec (λ c. search needs) returns returns-2)

@@ -1,0 +1,5 @@
+pub mod Before
+pub mod Pairs
+pub mod Files
+pub mod Accepted
+pub mod Examples
