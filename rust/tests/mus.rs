@@ -191,8 +191,8 @@ fn small_structures(checker: &mut Checker, one: usize, two: usize) {
     }
 }
 
-/// The first phrase and the last; and 16 beside the two that it could be taken for: 0 has its last
-/// four bits, 8 has its nibble.
+/// The first phrase and the last; then 16 beside 0 and beside 8. 16 could be taken for 0 (its last four
+/// bits) or for 8 (the nibble of its pairs).
 #[test]
 fn every_small_structure() {
     let mut checker = Checker::new();

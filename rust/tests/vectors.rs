@@ -1,5 +1,5 @@
 //! The hand-made files of crates/sidvectors, musvectors and listvectors and the pairs of
-//! crates/pairs, worked out from document 01 (tools/ says why each must give what): both readers
+//! crates/pairs, worked out from document 01 as corrected (tools/ says why each must give what): both readers
 //! must give the lines that stand there.
 
 mod plain;

@@ -3,7 +3,7 @@
 -- Command                   the commands of the table in its order, and none
 -- Row                       a row: the second byte's pattern, the command, and which numbers it may have and
 --                           what is added to them
--- counts, is, from16, upTo  kinds of rows: every number; a byte with one value; numbers from a least one with
+-- counts, is, plus16, upTo  kinds of rows: every number; a byte with one value; numbers from a least one with
 --                           16 added; numbers up to a greatest
 -- rowsFrom                  the table, where a number is the least of the two rows 1nnn of DEF and CAL
 -- rows                      the table as it holds: that least number is 0, which is phrase 16
@@ -40,9 +40,9 @@ counts p c = record { pattern = p; command = c; least = 0; most = 31; added = 0 
 abbrev is : List Symbol → Command → ℕ → Row
 is p c v = record { pattern = p; command = c; least = 0; most = 0; added = v }
 
--- 'Bits 7654 contain a value .. which is 8 less than the true value', so 1nnn is 16 and nnn
-abbrev from16 : ℕ → List Symbol → Command → Row
-from16 least p c = record { pattern = p; command = c; least = least; most = 7; added = 16 }
+-- 'Bits 7654 contain a value .. which is 8 less than the true value', so 1nnn means 16 + nnn
+abbrev plus16 : ℕ → List Symbol → Command → Row
+plus16 least p c = record { pattern = p; command = c; least = least; most = 7; added = 16 }
 
 abbrev upTo : ℕ → List Symbol → Command → Row
 upTo most p c = record { pattern = p; command = c; least = 0; most = most; added = 0 }
@@ -57,7 +57,7 @@ rowsFrom least =
     ∷ is (byte O O I O O O I I) RNG 0
     ∷ is (byte O O I I O O I I) SNC 0
     ∷ is (byte O I O O O O I I) F-X 0
-    ∷ from16 least (byte I n n n O O I I) DEF
+    ∷ plus16 least (byte I n n n O O I I) DEF
     ∷ counts (byte O n n n n I O O) ATK
     ∷ counts (byte I n n n n I O O) SUS
     ∷ is (byte O I I O O O I I) LFO 0
@@ -76,7 +76,7 @@ rowsFrom least =
     ∷ is (byte O I O I I O I I) 3-0 1
     ∷ is (byte O I I O I O I I) LFO 1
     ∷ is (byte O I I I I O I I) P&V 1
-    ∷ from16 least (byte I n n n I O I I) CAL
+    ∷ plus16 least (byte I n n n I O I I) CAL
     ∷ counts (byte n n n n I I I O) VOL
     ∷ is (byte O O O O I I I I) TAL 0
     ∷ is (byte O O I O I I I I) END 0

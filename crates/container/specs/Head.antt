@@ -4,11 +4,12 @@
 -- badLength       'voice length 0 or odd'
 -- voicesEnd       where the voices end and the text begins
 -- voicesOf        where the voices lie, one after the other from byte 8 on
+-- voiceSpan       where the voice with a number lies
 -- headTests       21 to 24, in the paper's order
 -- outcomeOfHead   the paper's number and values for each case of an answer
 -- headOutcome     the first of 21 to 24 that applies, else where the voices lie
 use Prim.Native.Nat.{ℕ, _+_, _-_, _%_}
-use mathlib.Core.Bool.{Bool, _||_}
+use mathlib.Core.Bool.{Bool, _||_, cond}
 use mathlib.Core.List.{List, [], _∷_}
 use lib.ListN.{length}
 use lib.Dec.{ltb, eqb}
@@ -17,6 +18,7 @@ use Rattle.refusals.specs.Numbers.Outcome.{accepted, refused}
 use Rattle.refusals.specs.Numbers.Reason.{musShort, musPastMemory, voiceLength, voicesPastFile}
 use Rattle.refusals.specs.Tests.{Test, test, firstOf, guarded}
 use Rattle.fields.specs.Numbers.{le16}
+use Rattle.fields.specs.declared.Span.{Span}
 use Rattle.container.specs.declared.head.Head.{Head}
 use Rattle.container.specs.declared.Voices.{Voices}
 use Rattle.container.specs.declared.Heading.{Heading}
@@ -47,6 +49,9 @@ voicesOf x =
       voice3 = record { from = 8 + x .len1 + x .len2; len = x .len3 };
       end = voicesEnd x;
     }
+
+abbrev pub voiceSpan : Voices → ℕ → Span
+voiceSpan v n = cond (eqb n 1) (v .voice1) (cond (eqb n 2) (v .voice2) (v .voice3))
 
 abbrev pub headTests : Head → List Test
 headTests x =

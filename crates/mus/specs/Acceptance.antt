@@ -2,8 +2,8 @@
 -- voices; what is then reported of it follows from the file alone.
 -- Passes                           none of 27 to 33 applies to a voice
 -- voiceReport                      what is reported of a voice
--- found-none                       where what comes after a finding is accepted, nothing was found
 -- passes-voice, voice-passes       a voice is accepted exactly when none applies to it
+-- found-none                       where what comes after a finding is accepted, nothing was found
 -- Clear                            none of 21 to 33 applies to a file and its voices
 -- songOf                           what is reported of a file
 -- Given, then-given                where what comes after a part is accepted, so is the part
@@ -18,7 +18,7 @@ use Rattle.meaning.specs.declared.Meaning.{Meaning}
 use Rattle.refusals.specs.Numbers.{Outcome}
 use Rattle.refusals.specs.Numbers.Outcome.{accepted, refused}
 use Rattle.refusals.specs.Tests.{None, firstOf, andThen}
-use Rattle.refusals.specs.Laws.{passed-none, none-passed, two-ways}
+use Rattle.refusals.specs.Laws.{passed-none, none-passed, two-ways, accepted-once}
 use Rattle.refusals.specs.declared.Verdict.{Verdict}
 use Rattle.refusals.specs.declared.Verdict.the-variants.{Passed, Failed}
 use Rattle.container.specs.declared.Layout.{Layout}
@@ -145,7 +145,7 @@ accepted-clear f s e =
     let first = voice-passes (l .voice1 .from) (partOf f (l .voice1)) (one .value) (one .was) in
     let second = voice-passes (l .voice2 .from) (partOf f (l .voice2)) (two .value) (two .was) in
     let third = voice-passes (l .voice3 .from) (partOf f (l .voice3)) (three .value) (three .was) in
-    let song : songWith l (one .value) (two .value) (three .value) ≡ s = same (three .gives) in (
+    let song : songWith l (one .value) (two .value) (three .value) ≡ s = accepted-once (three .gives) in (
       record {
         container = layout-none f l (right .was);
         voice1 = subst (λ (x : Layout). Passes (pairs (partOf f (x .voice1)))) (sym lies) (first .0);
@@ -156,9 +156,6 @@ accepted-clear f s e =
           (sym lies) (together l (first .1) (second .1) (third .1) ∙ song),
     )
   where
-    same : {t : Song} → accepted t ≡ accepted s → t ≡ s
-    same q = cc
-
     together : (l : Layout) {a b c : Voice} → voiceAt f (l .voice1) ≡ a → voiceAt f (l .voice2) ≡ b → voiceAt f (l .voice3) ≡ c
         → songWith l (voiceAt f (l .voice1)) (voiceAt f (l .voice2)) (voiceAt f (l .voice3)) ≡ songWith l a b c
     together l p q r = λ i. songWith l (p i) (q i) (r i)

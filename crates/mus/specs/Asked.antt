@@ -6,7 +6,6 @@
 --               to read pairs
 -- voiceAsked    the same with document 01's reader, pairs
 -- bytesOf       a voice's bytes in the file
--- spanAt        where the container puts the voice with a number
 use Prim.Native.Nat.{ℕ}
 use mathlib.Core.Bool.{_||_, cond}
 use mathlib.Core.List.{List, [], _∷_}
@@ -15,8 +14,6 @@ use lib.ListN.{take, drop}
 use Rattle.refusals.specs.Numbers.{Outcome, voiceNumber}
 use Rattle.refusals.specs.Numbers.Outcome.{accepted}
 use Rattle.refusals.specs.Tests.{Test, test, firstOf, guarded, andThen}
-use Rattle.fields.specs.declared.Span.{Span}
-use Rattle.container.specs.declared.Layout.{Layout}
 use Rattle.bodies.specs.Voice.{Reader, pairs}
 use Rattle.mus.specs.declared.Voice.{Voice}
 use Rattle.mus.specs.declared.Song.{Song}
@@ -36,6 +33,3 @@ voiceAsked f n = askedBy pairs f n
 
 abbrev pub bytesOf : List ℕ → Voice → List ℕ
 bytesOf f v = take (v .length) (drop (v .offset) f)
-
-abbrev pub spanAt : Layout → ℕ → Span
-spanAt l n = cond (eqb n 1) (l .voice1) (cond (eqb n 2) (l .voice2) (l .voice3))

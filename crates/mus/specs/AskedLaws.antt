@@ -17,7 +17,8 @@ use Rattle.fields.specs.declared.Span.{Span}
 use Rattle.fields.specs.Parts.{partOf}
 use Rattle.refusals.specs.Numbers.Outcome.{accepted, refused}
 use Rattle.refusals.specs.Tests.{firstOf, andThen}
-use Rattle.refusals.specs.Laws.{passed-none, two-ways, guarded-passed, refused-once}
+use Rattle.refusals.specs.Laws.{passed-none, two-ways, accepted-once, guarded-passed, refused-once}
+use Rattle.container.specs.Head.{headOf, voicesOf, voiceSpan}
 use Rattle.container.specs.Layout.{layoutOf}
 use Rattle.container.specs.Laws.{VoiceFits, short-file, voice1-fits, voice2-fits, voice3-fits}
 use Rattle.bodies.specs.Voice.{pairs}
@@ -27,7 +28,7 @@ use Rattle.mus.specs.declared.VoiceAnswer.{VoiceAnswer}
 use Rattle.mus.specs.declared.VoiceAnswer.the-variants.{Accepted, Refused}
 use Rattle.mus.specs.Voices.{outcomeOfVoice}
 use Rattle.mus.specs.Song.{musOutcome}
-use Rattle.mus.specs.Asked.{numberTests, songVoice, askedBy, voiceAsked, bytesOf, spanAt}
+use Rattle.mus.specs.Asked.{numberTests, songVoice, askedBy, voiceAsked, bytesOf}
 use Rattle.mus.specs.Acceptance.{Passes, voiceReport, songOf, accepted-clear, then-given}
 use Rattle.mus.specs.Bounds.{InSong}
 
@@ -63,10 +64,7 @@ module _ (f : List ℕ) (n : ℕ) where
   asked-accepted v e =
       let passed = guarded-passed (firstOf (numberTests n)) (andThen (musOutcome f) (λ s. accepted (songVoice s n))) v e in
       let given = then-given (musOutcome f) (λ s. accepted (songVoice s n)) v (passed .1) in
-      record { number = passed-none (numberTests n) (passed .0) .0; song = given .value; file = given .was; voice = same (given .gives) }
-    where
-      same : {w : Voice} → accepted w ≡ accepted v → w ≡ v
-      same q = cc
+      record { number = passed-none (numberTests n) (passed .0) .0; song = given .value; file = given .was; voice = accepted-once (given .gives) }
 
 -- a part of a list, taken by its own length
 take-own : (n : ℕ) (l : List ℕ) → take (length (take n l)) l ≡ take n l
@@ -76,12 +74,12 @@ take-own (suc n) (x ∷ l) = ap (λ (r : List ℕ). x ∷ r) (take-own n l)
 
 -- The bytes of a voice of an accepted file, by its number, are those that the container gives this voice.
 pub voice-bytes : (f : List ℕ) (s : Song) (n : ℕ) → musOutcome f ≡ accepted s
-    → bytesOf f (songVoice s n) ≡ partOf f (spanAt (layoutOf f) n)
-unfolding songOf
+    → bytesOf f (songVoice s n) ≡ partOf f (voiceSpan (voicesOf (headOf f)) n)
+unfolding songOf layoutOf
 voice-bytes f s n e =
     let l = layoutOf f in
     let own : (x : Span) → take (length (partOf f x)) (drop (x .from) f) ≡ partOf f x = λ x. take-own (x .len) (drop (x .from) f) in
-    subst (λ (x : Song). bytesOf f (songVoice x n) ≡ partOf f (spanAt l n)) (accepted-clear f s e .1)
+    subst (λ (x : Song). bytesOf f (songVoice x n) ≡ partOf f (voiceSpan (voicesOf (headOf f)) n)) (accepted-clear f s e .1)
     (cases (eqb n 1) (λ a. rw a (own (l .voice1)))
     (λ a. cases (eqb n 2) (λ b. rw (a, b) (own (l .voice2))) (λ b. rw (a, b) (own (l .voice3)))))
 

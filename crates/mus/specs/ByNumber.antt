@@ -1,8 +1,10 @@
--- A file's head is right exactly where its refusal, if there is one, has a number above 24.
+-- A file's head is right exactly where its refusal, if there is one, has a number above 24; so is its container
+-- where the number is above 26.
 -- Above         a refusal's number is above another number
 -- voice-above   a voice is refused with a number above 26
 -- head-above    a file whose head is right is refused with a number above 24
-use Prim.Native.Nat.{ℕ, _+_, _<_}
+-- low-number    a file that is refused with a number up to 26 is refused so by its container
+use Prim.Native.Nat.{ℕ, _+_, _<_, _≤_}
 use mathlib.Core.Path.{_≡_, refl, subst}
 use mathlib.Core.List.{List, [], _∷_}
 use native.Mathlib.Omega.{arith}
@@ -83,29 +85,43 @@ voice-above offset bs =
     (limited-above offset (length bs) v))
 
 -- an outcome that comes after another
-then-above : {A B : Type 0} (o : Outcome A) (g : A → Outcome B) → Above 24 o → ((a : A) → Above 24 (g a)) → Above 24 (andThen o g)
-then-above (accepted a) g l h = h a
-then-above (refused n p) g l h = l
+then-above : {A B : Type 0} (k : ℕ) (o : Outcome A) (g : A → Outcome B) → Above k o → ((a : A) → Above k (g a)) → Above k (andThen o g)
+then-above k (accepted a) g l h = h a
+then-above k (refused n p) g l h = l
 
 lower : {A : Type 0} (o : Outcome A) → Above 26 o → Above 24 o
 lower (accepted a) l = tt
 lower (refused n p) l = omega arith
 
 module _ (f : List ℕ) where
-  span-above : (s : Span) → Above 24 (voiceIn pairs f s)
-  span-above s = lower (voiceIn pairs f s) (voice-above _ _)
+  span-above : (s : Span) → Above 26 (voiceIn pairs f s)
+  span-above s = voice-above _ _
 
-  song-above : (l : Layout) → Above 24 (songIn (voiceIn pairs f) l)
+  song-above : (l : Layout) → Above 26 (songIn (voiceIn pairs f) l)
   song-above l =
-      then-above (voiceIn pairs f (l .voice1)) (λ v1. andThen (voiceIn pairs f (l .voice2)) (λ v2. andThen (voiceIn pairs f (l .voice3)) (λ v3. accepted (songWith l v1 v2 v3)))) (span-above (l .voice1))
-      (λ v1. then-above (voiceIn pairs f (l .voice2)) (λ v2. andThen (voiceIn pairs f (l .voice3)) (λ v3. accepted (songWith l v1 v2 v3))) (span-above (l .voice2))
-      (λ v2. then-above (voiceIn pairs f (l .voice3)) (λ v3. accepted (songWith l v1 v2 v3)) (span-above (l .voice3)) (λ v3. tt)))
+      then-above 26 (voiceIn pairs f (l .voice1)) (λ v1. andThen (voiceIn pairs f (l .voice2)) (λ v2. andThen (voiceIn pairs f (l .voice3)) (λ v3. accepted (songWith l v1 v2 v3)))) (span-above (l .voice1))
+      (λ v1. then-above 26 (voiceIn pairs f (l .voice2)) (λ v2. andThen (voiceIn pairs f (l .voice3)) (λ v3. accepted (songWith l v1 v2 v3))) (span-above (l .voice2))
+      (λ v2. then-above 26 (voiceIn pairs f (l .voice3)) (λ v3. accepted (songWith l v1 v2 v3)) (span-above (l .voice3)) (λ v3. tt)))
 
   -- A file to whose head none of 21 to 24 applies is refused with a number above 24, or accepted.
   pub head-above : (v : Voices) → headOutcome f ≡ accepted v → Above 24 (musOutcome f)
   unfolding songBy
-  head-above v e = then-above (containerOutcome f) (λ l. songIn (voiceIn pairs f) l) (go (containerOutcome f) refl) song-above
+  head-above v e =
+      then-above 24 (containerOutcome f) (λ l. songIn (voiceIn pairs f) l) (go (containerOutcome f) refl)
+      (λ l. lower (songIn (voiceIn pairs f) l) (song-above l))
     where
       go : (o : Outcome Layout) → containerOutcome f ≡ o → Above 24 o
       go (accepted l) q = tt
       go (refused n p) q = text-number f v n p e q
+
+  -- A file that is refused with a number up to 26 is refused so by its container, before any voice is looked at.
+  pub low-number : (n p : ℕ) → musOutcome f ≡ refused n p → n ≤ 26 → containerOutcome f ≡ refused n p
+  unfolding songBy
+  low-number n p e low = go (containerOutcome f) e
+    where
+      go : (o : Outcome Layout) → andThen o (λ l. songIn (voiceIn pairs f) l) ≡ refused n p → o ≡ refused n p
+      go (accepted l) q = absurd (not-above (subst (Above 26) q (song-above l)))
+        where
+          not-above : 26 < n → ⊥
+          not-above late = omega (arith, late, low)
+      go (refused m k) q = let same : (m ≡ n) × (k ≡ p) = (cc, cc) in λ i. refused (same .0 i) (same .1 i)

@@ -1,7 +1,7 @@
 -- Laws of a file's outcome; when a file is accepted is in Acceptance.antt.
 -- song-once                    no two answers have the same outcome
 -- container-refused            21 to 26 come first, whatever the voices' pairs mean
--- head-refused                 so do 21 to 24
+-- head-refused                 21 to 24 by the file's head
 -- long-refused, song-cut-off   a file of more than 65,536 bytes is 22, and so are its first n bytes for n
 --                              above 65,536
 use Prim.Native.Nat.{ℕ, _<_}

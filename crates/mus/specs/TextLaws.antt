@@ -14,7 +14,7 @@ use Rattle.logic.specs.Cases.{cases}
 use Rattle.fields.specs.declared.Span.{Span}
 use Rattle.fields.specs.Parts.{partOf}
 use Rattle.refusals.specs.Numbers.Outcome.{accepted, refused}
-use Rattle.refusals.specs.Laws.{two-ways, refused-once}
+use Rattle.refusals.specs.Laws.{two-ways, refused-once, accepted-once}
 use Rattle.container.specs.Head.{headOf, voicesEnd}
 use Rattle.container.specs.Text.{line}
 use Rattle.container.specs.Laws.{lines-part}
@@ -67,7 +67,7 @@ module _ (f : List ℕ) (n : ℕ) where
   line-text s e =
       let given = then-given (musOutcome f) (λ s. accepted (songLine s n)) (lies s) e in
       let song : songOf f ≡ given .value = accepted-clear f (given .value) (given .was) .1 in
-      let is : songLine (songOf f) n ≡ lies s = subst (λ (x : Song). songLine x n ≡ lies s) (sym song) (same (given .gives)) in
+      let is : songLine (songOf f) n ≡ lies s = subst (λ (x : Song). songLine x n ≡ lies s) (sym song) (accepted-once (given .gives)) in
       let parts = lines-part f in
       cases (eqb n 1) (λ a. named 0 s _ (lit≤ tt) a (rw a at is) (parts .0))
       (λ a. cases (eqb n 2) (λ b. named 1 s _ (lit≤ tt) b (rw (a, b) at is) (parts .1))
@@ -75,6 +75,3 @@ module _ (f : List ℕ) (n : ℕ) where
       (λ c. cases (eqb n 4) (λ d. named 3 s _ (lit≤ tt) d (rw (a, b, c, d) at is) (parts .3))
       (λ d. cases (eqb n 5) (λ g. named 4 s _ (lit≤ tt) g (rw (a, b, c, d, g) at is) (parts .4))
       (λ g. absurd (no-line (ap accepted (sym (rw (a, b, c, d, g) at is)))))))))
-    where
-      same : {p q : LinePlace} → accepted p ≡ accepted q → p ≡ q
-      same q = cc

@@ -7,8 +7,8 @@ use native.Mathlib.Omega.{arith}
 use lib.Dec.{lit<}
 use lib.ListN.{length}
 use borrow.Author.Tests.{ltb-false}
-use Rattle.refusals.specs.Numbers.{Outcome}
 use Rattle.refusals.specs.Numbers.Outcome.{accepted}
+use Rattle.refusals.specs.Laws.{accepted-once}
 use Rattle.bodies.specs.Voice.{pairs}
 use Rattle.bodies.specs.Playing.{eventsOf, walkedOf}
 use Rattle.bodies.proofs.Related.{events-walked}
@@ -22,9 +22,6 @@ use Rattle.muscalls.specs.Lists.{songNumbers}
 use Rattle.muscalls.specs.Statements.{MusAnswers}
 use Rattle.muscalls.proofs.Places.{mus-low, list-low}
 
-same : {A : Type 0} {a b : A} → _≡_ {A = Outcome A} (accepted a) (accepted b) → a ≡ b
-same e = cc
-
 module _ (f : List ℕ) where
   -- a voice has at most 1,048,576 events
   list-apart : (voice first : ℕ) (os js : List ℕ) → Apart (λ count. count) (listing f voice first os js .answer)
@@ -37,7 +34,7 @@ module _ (f : List ℕ) where
           let v = songVoice (w .song) voice in
           let i = in-song f (w .song) voice (w .file) in
           let walked = ltb-false 1048576 (walkedOf (pairs (bytesOf f v))) (i .passes .limits .1 .0) in
-          let is : countOf (length os) first (playedIn f v) ≡ count = same (sym (ap (λ (l : Listing). l .answer) (w .window)) ∙ e) in
+          let is : countOf (length os) first (playedIn f v) ≡ count = accepted-once (sym (ap (λ (l : Listing). l .answer) (w .window)) ∙ e) in
           omega (arith, is, walked, events-walked (pairs (bytesOf f v)))
 
   pub mus-answers : MusAnswers f

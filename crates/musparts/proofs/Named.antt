@@ -22,7 +22,7 @@ use Rattle.refusals.specs.Tests.{firstOf, guarded, andThen}
 use Rattle.refusals.specs.Laws.{two-ways}
 use Rattle.container.specs.declared.Voices.{Voices}
 use Rattle.container.specs.declared.Layout.{Layout}
-use Rattle.container.specs.Head.{headOf, voicesOf, headOutcome}
+use Rattle.container.specs.Head.{headOf, voicesOf, voiceSpan, headOutcome}
 use Rattle.container.specs.Layout.{layoutOf, containerTests, containerOutcome}
 use Rattle.container.specs.Laws.{VoiceFits, layout-none, layout-of, voice1-fits, voice2-fits, voice3-fits}
 use Rattle.container.specs.ByNumber.{first-each}
@@ -38,7 +38,7 @@ use Rattle.counts.specs.Limits.{countOutcome}
 use Rattle.mus.specs.Voices.{orFound, limited, voiceBy}
 use Rattle.mus.specs.Song.{voiceIn, songIn, songBy, musOutcome}
 use Rattle.musparts.specs.Laws.{part-length, head-right}
-use Rattle.musparts.specs.Named.{voiceSpan, PairNamed, PlacesNamed}
+use Rattle.musparts.specs.Named.{PairNamed, PlacesNamed}
 
 -- an offset is that of a stored pair of the voice at a span
 record PairAt (s : Span) (place : ℕ) : Type 0 where

@@ -9,6 +9,7 @@ use lib.ListN.{length, length-append, length-drop}
 use Rattle.logic.specs.Cases.{cases}
 use Rattle.fields.specs.declared.Span.{Span}
 use Rattle.refusals.specs.Numbers.Outcome.{accepted}
+use Rattle.refusals.specs.Laws.{accepted-once}
 use Rattle.refusals.specs.Tests.{None}
 use Rattle.container.specs.Head.{headOf, voicesEnd}
 use Rattle.container.specs.Text.{textOf}
@@ -16,7 +17,7 @@ use Rattle.container.specs.Layout.{layoutOf, containerTests}
 use Rattle.container.specs.Laws.{text-whole}
 use Rattle.mus.specs.declared.Song.{Song}
 use Rattle.mus.specs.Song.{musOutcome}
-use Rattle.mus.specs.Text.{LinePlace, songLine, lineAsked}
+use Rattle.mus.specs.Text.{songLine, lineAsked}
 use Rattle.mus.specs.Text.LinePlace.{lies, noLine}
 use Rattle.mus.specs.Acceptance.{songOf, then-given, accepted-clear}
 
@@ -62,8 +63,5 @@ unfolding lineAsked
 line-inside f n s e =
     let given = then-given (musOutcome f) (λ s. accepted (songLine s n)) (lies s) e in
     let c = accepted-clear f (given .value) (given .was) in
-    let is : songLine (given .value) n ≡ lies s = same (given .gives) in
+    let is : songLine (given .value) n ≡ lies s = accepted-once (given .gives) in
     each-line (Inside f) (given .value) (subst (EachLine (Inside f)) (c .1) (lines-inside f (c .0 .container))) n s is
-  where
-    same : {p q : LinePlace} → accepted p ≡ accepted q → p ≡ q
-    same q = cc

@@ -1,21 +1,14 @@
 -- What a caller makes of a refusal's place and of what tt_mus_voices puts out: which pair of which voice is
 -- refused. A voice is named by its number, 1 to 3, a pair by its number in the voice, counted from 0.
--- voiceSpan     where the voice with a number lies
 -- PairNamed     a file offset is that of a stored pair of a voice
 -- PlacesNamed   so is the place of each refusal from 27 to 33, in one way; proofs/Named.antt proves it
 use Prim.Native.Nat.{ℕ, _+_, _*_, _/_, _<_, _≤_}
 use mathlib.Core.Path.{_≡_}
-use mathlib.Core.Bool.{cond}
 use mathlib.Core.List.{List}
-use lib.Dec.{eqb}
-use Rattle.fields.specs.declared.Span.{Span}
 use Rattle.refusals.specs.Numbers.Outcome.{accepted, refused}
 use Rattle.container.specs.declared.Voices.{Voices}
-use Rattle.container.specs.Head.{headOf, voicesOf, headOutcome}
+use Rattle.container.specs.Head.{headOf, voicesOf, voiceSpan, headOutcome}
 use Rattle.mus.specs.Song.{musOutcome}
-
-abbrev pub voiceSpan : Voices → ℕ → Span
-voiceSpan v n = cond (eqb n 1) (v .voice1) (cond (eqb n 2) (v .voice2) (v .voice3))
 
 pub record PairNamed (v : Voices) (place : ℕ) : Type 0 where
   pub voice : ℕ

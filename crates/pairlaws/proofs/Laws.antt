@@ -5,7 +5,7 @@ use Prim.Native.Nat.{ℕ}
 use mathlib.Core.Path.{_≡_, sym, _∙_, subst}
 use Rattle.refusals.specs.Numbers.{Outcome}
 use Rattle.refusals.specs.Numbers.Outcome.{accepted, refused}
-use Rattle.refusals.specs.Laws.{two-ways}
+use Rattle.refusals.specs.Laws.{two-ways, accepted-once}
 use Rattle.meaning.specs.declared.Meaning.{Meaning}
 use Rattle.meaning.specs.Answers.{Bytes}
 use Rattle.spelling.specs.Counts.{pair, noBytes}
@@ -15,9 +15,6 @@ use Rattle.pairlaws.specs.Statements.{Means, HasPair, ReadingAndWriting}
 use Rattle.pairlaws.proofs.ValueKinds.{ReadsBack}
 use Rattle.pairlaws.proofs.Written.{reads-back}
 use Rattle.pairlaws.proofs.Read.{WrittenAs, written-as}
-
-same-bytes : (x y : Bytes) → _≡_ {A = Outcome Bytes} (accepted x) (accepted y) → x ≡ y
-same-bytes x y e = cc
 
 module _ (m : Meaning) where
   written-reads : (a b : ℕ) → spellingOf m ≡ pair a b → Means m a b
@@ -37,11 +34,10 @@ pub reading-and-writing : ReadingAndWriting
 reading-and-writing = record {
   written-reads = written-reads;
   read-written = read-written;
-  written-preferred = λ m a b e. same-bytes (preferred a b) _ (sym (read-written m a b (written-reads m a b e)) ∙ e);
+  written-preferred = λ m a b e. accepted-once (sym (read-written m a b (written-reads m a b e)) ∙ e);
   unwritten-none = λ m e h. two-ways (sym e ∙ read-written m (h .first) (h .second) (h .means));
   none-unwritten = none-unwritten;
   unwritten = λ m number place e. subst (ReadsBack m) e (reads-back m);
   preferred-means = λ m a b means. written-reads m (preferred a b .first) (preferred a b .second) (read-written m a b means);
-  same-preferred = λ m a b c d one other. same-bytes (preferred a b) (preferred c d)
-      (sym (read-written m a b one) ∙ read-written m c d other);
+  same-preferred = λ m a b c d one other. accepted-once (sym (read-written m a b one) ∙ read-written m c d other);
 }

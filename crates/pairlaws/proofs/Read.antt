@@ -35,7 +35,7 @@ WrittenAs a b (accepted m) = spellingOf m ≡ accepted (preferred a b)
 WrittenAs a b (refused number place) = Unit
 
 -- the same as a test, for the first bytes that have 256 pairs and no more
-abbrev sameBytes : Outcome Bytes → Bytes → Bool
+abbrev pub sameBytes : Outcome Bytes → Bytes → Bool
 sameBytes (accepted x) y = eqb (x .first) (y .first) && eqb (x .second) (y .second)
 sameBytes (refused number place) y = false
 
@@ -43,7 +43,7 @@ abbrev writtenAs : ℕ → ℕ → Outcome Meaning → Bool
 writtenAs a b (accepted m) = sameBytes (spellingOf m) (preferred a b)
 writtenAs a b (refused number place) = true
 
-bytes-same : (o : Outcome Bytes) (y : Bytes) → T (sameBytes o y) → o ≡ accepted y
+pub bytes-same : (o : Outcome Bytes) (y : Bytes) → T (sameBytes o y) → o ≡ accepted y
 bytes-same (accepted x) y t =
     let first = eqb→eq (x .first) (y .first) (all-left (eqb (x .first) (y .first)) (eqb (x .second) (y .second)) t) in
     let second = eqb→eq (x .second) (y .second) (all-right (eqb (x .first) (y .first)) (eqb (x .second) (y .second)) t) in

@@ -73,7 +73,7 @@ counted-back c M is v most base step t =
     coded-means c M is (base + step * v) v (every-at (λ k. codedIs c (base + step * k) k) (most + 1) t v (omega arith)))
 
 pub phrase-back : (c : Command) (M : ℕ → Meaning) → ((v : ℕ) → Codes.commandMeaning c v ≡ accepted (M v))
-    → (v low high : ℕ) → T (every (λ k. codedIs c (low + 16 * k) k) 16) → T (every (λ k. codedIs c (high + 16 * (16 + k - 16)) (16 + k)) 8)
+    → (v low high : ℕ) → T (every (λ k. codedIs c (low + 16 * k) k) 16) → T (every (λ k. codedIs c (high + 16 * k) (16 + k)) 8)
     → ReadsBack (M v) (phrase v low high)
 phrase-back c M is v low high t u =
     picked-back-else (M v) (leb v 15) 1 (low + 16 * v) (cond (leb 16 v && leb v 23) (pair 1 (high + 16 * (v - 16))) noBytes)
@@ -86,7 +86,7 @@ phrase-back c M is v low high t u =
         let h = leb-true v 23 (both-right (leb 16 v) (leb v 23) e) in
         let s : 16 + (v - 16) ≡ v = omega arith in
         coded-means c M is (high + 16 * (v - 16)) v
-        (rw (s) at (every-at (λ k. codedIs c (high + 16 * (16 + k - 16)) (16 + k)) 8 u (v - 16) (omega arith)))
+        (rw (s) at (every-at (λ k. codedIs c (high + 16 * k) (16 + k)) 8 u (v - 16) (omega arith)))
 
 pub single-back : (M : ℕ → Meaning) (first v most : ℕ) → ((n : ℕ) → n ≤ most → meaningOf first n ≡ accepted (M n))
     → T (ltb first 256) → T (ltb most 256) → ReadsBack (M v) (alone first v most)

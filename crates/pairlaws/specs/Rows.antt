@@ -1,5 +1,6 @@
 -- Source 004's tables: their rows lie apart, so that their order says nothing, and the bytes that fit none
--- are those that document 01 lists; of first bytes also the notes' and 01, which have their own tables.
+-- are those that document 01, as corrected by request (ii), lists; of first bytes also the notes' and 01, which
+-- have their own tables.
 -- holding, rowsFitting   how many rows a byte fits, after 01 and as a first byte
 -- seconds-apart          no second byte after 01 fits two rows
 -- unassignedSeconds, seconds-unassigned   'Unassigned: 53 6F 7F 9F BF CF FF' as corrected, after 01
@@ -32,7 +33,7 @@ seconds-apart b h = leb→le (holding rows b) 1 (every-at (λ k. leb (holding ro
 abbrev pub unassignedSeconds : List ℕ
 unassignedSeconds = 0x53 ∷ 0x6F ∷ 0x7F ∷ 0x9F ∷ 0xBF ∷ 0xCF ∷ 0xFF ∷ []
 
--- A second byte after 01 fits no row exactly when document 01 lists it as unassigned.
+-- A second byte after 01 fits no row exactly when document 01, as corrected, lists it as unassigned.
 pub seconds-unassigned : (b : ℕ) → b < 256 → eqb (holding rows b) 0 ≡ among unassignedSeconds b
 seconds-unassigned b h =
     same-equal (eqb (holding rows b) 0) (among unassignedSeconds b)

@@ -1,7 +1,8 @@
 -- Request (ii), of files that were accepted: no such file has one of the two pairs. So each is answered as it
--- was, and by listing-as-before (Files.antt) its listings are what they were.
--- accepted-without     a file that was accepted last year has neither 01 83 nor 01 8B
+-- was, and so are its listings.
+-- accepted-without     a file that was accepted before has neither 01 83 nor 01 8B
 -- accepted-as-before   it is accepted, with the same song
+-- accepted-listed      its listings are what they were
 use Prim.Native.Nat.{ℕ}
 use mathlib.Core.Path.{_≡_, sym, _∙_, subst}
 use mathlib.Core.Bool.{Bool, true, false, _||_}
@@ -29,9 +30,10 @@ use Rattle.mus.specs.Voices.{voiceBy}
 use Rattle.mus.specs.Song.{voiceIn, songWith, songIn, songBy, musOutcome}
 use Rattle.mus.specs.Acceptance.{found-none, then-given}
 use Rattle.phraselaws.specs.Before.{meaningBefore, pairsBefore, sixteen, Without, WithoutSixteen, AreBytes}
-use Rattle.phraselaws.specs.Files.{song-as-before}
+use Rattle.events.specs.Listing.{listingBy, listing}
+use Rattle.phraselaws.specs.Files.{song-as-before, listing-as-before}
 
--- a pair that last year's 27 lets pass is neither of the two
+-- a pair that the earlier 27 lets pass is neither of the two
 pair-without : (a b : ℕ) (last : Bool) → None (pairTests (kindOf (meaningBefore a b)) last) → sixteen a b ≡ false
 pair-without a b last none = cases (sixteen a b) (λ e. absurd (unassigned e)) (λ e. e)
   where
@@ -59,7 +61,7 @@ voice-without f s v e =
     pairs-without (partOf f s) (clear-none 0 (pairsTests stored) (found-none (s .from) (pairsFinding stored) _ v e .0))
 
 module _ (f : List ℕ) (s : Song) (was : songBy pairsBefore f ≡ accepted s) where
-  -- A file that was accepted last year has neither 01 83 nor 01 8B in its voices,
+  -- A file that was accepted before has neither 01 83 nor 01 8B in its voices,
   pub accepted-without : WithoutSixteen f
   unfolding songBy
   accepted-without =
@@ -76,6 +78,11 @@ module _ (f : List ℕ) (s : Song) (was : songBy pairsBefore f ≡ accepted s) w
         voice3 = subst (λ (x : Layout). Without (partOf f (x .voice3))) lies (voice-without f (l .voice3) (three .value) (three .was));
       }
 
-  -- so that it is accepted now, and what is reported of it is what was.
+  -- so it is accepted now, with the same report,
   pub accepted-as-before : AreBytes f → musOutcome f ≡ accepted s
   accepted-as-before bytes = sym (song-as-before f bytes accepted-without) ∙ was
+
+  -- and every listing of it is what it was.
+  pub accepted-listed : AreBytes f → (voice first : ℕ) (os js : List ℕ)
+      → listingBy pairsBefore f voice first os js ≡ listing f voice first os js
+  accepted-listed bytes = listing-as-before f bytes accepted-without

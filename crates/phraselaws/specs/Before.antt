@@ -1,11 +1,11 @@
--- Last year's reader, for the laws of request (ii): the definitions of today at another value. The rows 1nnn
--- of DEF and CAL began at 1 then, so that phrase 16 had no pair. No code has this.
--- meaningBefore    a pair's meaning, or 27 or 28, by last year's table
--- spellingBefore   a meaning's two bytes, or 43
--- pairsBefore      the stored pairs of a voice; with it songBy, askedBy and listingBy are last year's answers
+-- The earlier reader, that of the first release, before request (ii): the definitions of today with one other
+-- number. The rows 1nnn of DEF and CAL began at 1 then, so that phrase 16 had no pair. No code has this.
+-- meaningBefore    a pair's meaning, or 27 or 28, by the earlier table
+-- spellingBefore   a meaning's two bytes, or 43, by the earlier writer
+-- pairsBefore      the stored pairs of a voice; with it songBy, askedBy and listingBy are the earlier answers
 -- sixteen          the two pairs that were unassigned and are not now: 01 83, DEF 16, and 01 8B, CAL 16
 -- Without          none of the stored pairs of a voice is one of the two
--- WithoutSixteen   none of the stored pairs of a file's three voices is
+-- WithoutSixteen   none of the stored pairs of a file's three voices is one of the two
 -- AreBytes         every number of a file is a byte
 use Prim.Native.Nat.{ℕ, _<_}
 use mathlib.Core.Path.{_≡_}

@@ -2,11 +2,11 @@
 -- fileWith         a file at $0900: voice 1 of these ten bytes, voices 2 and 3 HLT alone, five empty lines
 -- sixteenCalled    voice 1 is DEF 16, a 64th, END, CAL 16, HLT
 -- called-accepted  it is accepted: the 64th of DEF 16, the 64th of CAL 16 and HLT are 1 + 1 + 1 events; the
---                  pairs walked are (1 + 2) + (1 + 2) + 1. Last year it was 27 at the DEF
--- called-listed    its listing, in lists of four cells that hold 90 to 93 and 80 to 83: a 64th lasts 720 384ths
---                  of a jiffy, so the events are at 0, 720 and 1,440
+--                  pairs walked are (1 + 2) + (1 + 2) + 1. Before, it was 27 at the DEF
+-- called-listed    its listing, in lists of four cells that hold 90 to 93 and 80 to 83: a 64th lasts 720
+--                  384ths of a jiffy, so the events are at 0, 720 and 1,440
 -- sixteenEarly     voice 1 is CAL 16, then DEF 16, a 64th, END, HLT
--- early-refused    it is refused: 'CAL of a number not yet closed by END' is 30 at the CAL. Last year it was
+-- early-refused    it is refused: 'CAL of a number not yet closed by END' is 30 at the CAL. Before, it was
 --                  27 there
 use Prim.Native.Nat.{ℕ}
 use mathlib.Core.Path.{_≡_, refl}
@@ -39,7 +39,7 @@ fileWith voice =
 abbrev pub sixteenCalled : List ℕ
 sixteenCalled = fileWith (0x01 ∷ 0x83 ∷ 0x20 ∷ 0x94 ∷ 0x01 ∷ 0x2F ∷ 0x01 ∷ 0x8B ∷ 0x01 ∷ 0x4F ∷ [])
 
--- A file that defines phrase 16 and calls it is accepted now; last year it was refused with 27 at the DEF.
+-- A file that defines phrase 16 and calls it is accepted now; before, it was refused with 27 at the DEF.
 pub called-accepted : (musOutcome sixteenCalled
     ≡ accepted (record {
       load = 0x0900;

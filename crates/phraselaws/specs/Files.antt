@@ -1,10 +1,11 @@
--- Request (ii), of files: a file without the pairs 01 83 and 01 8B is answered as it was last year, and so are
+-- Request (ii), of files: a file without the pairs 01 83 and 01 8B is answered as it was before, and so are
 -- its listings. The same holds of a file that 21 to 26 refuse, whatever its bytes are.
 -- pairs-as-before       the stored pairs of a voice without the two pairs
 -- song-as-before        the whole outcome of a file: number and place, or the song with its counts
+-- asked-as-before       a voice of it, by its number
 -- listing-as-before     the listing of each of its voices: the answer, and both lists
--- container-as-before, container-listed   both, of a file that 21 to 26 refuse
-use Prim.Native.Nat.{ℕ, zero, suc}
+-- refused-as-before, refused-listed   the outcome and the listings of a file that 21 to 26 refuse
+use Prim.Native.Nat.{ℕ, zero, suc, _≤_}
 use mathlib.Core.Path.{_≡_, refl, sym, ap, _∙_, subst}
 use mathlib.Core.List.{List, [], _∷_}
 use lib.Dec.{eqb}
@@ -18,6 +19,7 @@ use Rattle.refusals.specs.Tests.{firstOf, guarded, andThen}
 use Rattle.refusals.specs.Laws.{two-ways, guarded-passed}
 use Rattle.refusals.specs.declared.Verdict.{Verdict}
 use Rattle.container.specs.declared.Layout.{Layout}
+use Rattle.container.specs.Head.{headOf, voicesOf, voiceSpan}
 use Rattle.container.specs.Layout.{layoutOf, containerOutcome}
 use Rattle.container.specs.Laws.{layout-of}
 use Rattle.bodies.specs.Bodies.{Event}
@@ -28,7 +30,8 @@ use Rattle.mus.specs.declared.Song.{Song}
 use Rattle.mus.specs.Voices.{voiceBy}
 use Rattle.mus.specs.Song.{voiceIn, songIn, songBy, musOutcome}
 use Rattle.mus.specs.Laws.{container-refused}
-use Rattle.mus.specs.Asked.{songVoice, askedBy, voiceAsked, bytesOf, spanAt}
+use Rattle.mus.specs.ByNumber.{low-number}
+use Rattle.mus.specs.Asked.{songVoice, askedBy, voiceAsked, bytesOf}
 use Rattle.mus.specs.AskedLaws.{asked-accepted, voice-bytes}
 use Rattle.events.specs.Listing.{callerTests, playedBy, windowOf, filledBy, listingBy, listing}
 use Rattle.phraselaws.specs.Before.{pairsBefore, Without, WithoutSixteen, AreBytes}
@@ -46,7 +49,7 @@ drop-bytes zero f h = h
 drop-bytes (suc n) [] h = tt
 drop-bytes (suc n) (b ∷ f) h = drop-bytes n f (h .1)
 
--- The stored pairs of a voice without 01 83 and 01 8B are what they were last year.
+-- The stored pairs of a voice without 01 83 and 01 8B are what they were before.
 pub pairs-as-before : (bs : List ℕ) → AreBytes bs → Without bs → pairsBefore bs ≡ pairs bs
 unfolding pairsBefore pairs pairsBy Without AreBytes
 pairs-as-before [] h w = refl
@@ -67,7 +70,7 @@ filled-same es gs first os js (accepted v) same = λ i. windowOf v (same v refl 
 filled-same es gs first os js (refused n p) same = refl
 
 module _ (f : List ℕ) where
-  -- a reader that gives a file this outcome, and each voice of an accepted one these pairs, lists them so
+  -- a reader that gives a file today's outcome, and each voice of an accepted file today's pairs, lists as today
   listed-so : (read : Reader) → songBy read f ≡ musOutcome f
       → ((s : Song) (n : ℕ) → musOutcome f ≡ accepted s
       → read (bytesOf f (songVoice s n)) ≡ pairs (bytesOf f (songVoice s n)))
@@ -85,17 +88,15 @@ module _ (f : List ℕ) where
           subst (λ (x : Voice). played (read (bytesOf f x)) ≡ played (pairs (bytesOf f x))) (asked .voice)
           (ap played (stored (asked .song) voice (asked .file)))
 
-  -- A file that one of 21 to 26 refuses was refused so last year, whatever its bytes are,
-  pub container-as-before : (n p : ℕ) → containerOutcome f ≡ refused n p
-      → (songBy pairsBefore f ≡ refused n p) × (musOutcome f ≡ refused n p)
-  container-as-before n p e = (container-refused pairsBefore f n p e, container-refused pairs f n p e)
+  -- A file that is refused with 21 to 26 was refused so before, at the same place, whatever its bytes are,
+  pub refused-as-before : (n p : ℕ) → musOutcome f ≡ refused n p → n ≤ 26 → songBy pairsBefore f ≡ refused n p
+  refused-as-before n p e low = container-refused pairsBefore f n p (low-number f n p e low)
 
   -- and every listing of it is what it was.
-  pub container-listed : (n p : ℕ) → containerOutcome f ≡ refused n p → (voice first : ℕ) (os js : List ℕ)
+  pub refused-listed : (n p : ℕ) → musOutcome f ≡ refused n p → n ≤ 26 → (voice first : ℕ) (os js : List ℕ)
       → listingBy pairsBefore f voice first os js ≡ listing f voice first os js
-  container-listed n p e =
-      let both = container-as-before n p e in
-      listed-so pairsBefore (both .0 ∙ sym (both .1)) (λ s k a. absurd (two-ways (sym (both .1) ∙ a)))
+  refused-listed n p e low =
+      listed-so pairsBefore (refused-as-before n p e low ∙ sym e) (λ s k a. absurd (two-ways (sym e ∙ a)))
 
   module _ (bytes : AreBytes f) (without : WithoutSixteen f) where
     part-as-before : (s : Span) → Without (partOf f s) → pairsBefore (partOf f s) ≡ pairs (partOf f s)
@@ -106,7 +107,7 @@ module _ (f : List ℕ) where
     unfolding voiceBy
     span-as-before s w = rw (part-as-before s w)
 
-    -- A file whose three voices have none of the two pairs has the outcome that it had last year: the same
+    -- A file whose three voices have none of the two pairs has the outcome that it had before: the same
     -- refusal at the same place, or the same song with its counts.
     pub song-as-before : songBy pairsBefore f ≡ musOutcome f
     unfolding songBy
@@ -120,14 +121,20 @@ module _ (f : List ℕ) where
           span-as-before (l .voice3) (without .voice3),
         )))
 
-    at-number : (n : ℕ) → Without (partOf f (spanAt (layoutOf f) n))
+    -- A voice of such a file, by its number, is answered as it was.
+    pub asked-as-before : (n : ℕ) → askedBy pairsBefore f n ≡ voiceAsked f n
+    unfolding askedBy
+    asked-as-before n = rw song-as-before
+
+    at-number : (n : ℕ) → Without (partOf f (voiceSpan (voicesOf (headOf f)) n))
+    unfolding layoutOf
     at-number n =
         cases (eqb n 1) (λ a. rw a (without .voice1))
         (λ a. cases (eqb n 2) (λ b. rw (a, b) (without .voice2)) (λ b. rw (a, b) (without .voice3)))
 
-    -- Every listing of such a file is what it was last year: the answer, and every cell of both lists.
+    -- Every listing of such a file is what it was before: the answer, and every cell of both lists.
     pub listing-as-before : (voice first : ℕ) (os js : List ℕ)
         → listingBy pairsBefore f voice first os js ≡ listing f voice first os js
     listing-as-before =
         listed-so pairsBefore song-as-before
-        (λ s n e. rw (voice-bytes f s n e) (part-as-before (spanAt (layoutOf f) n) (at-number n)))
+        (λ s n e. rw (voice-bytes f s n e) (part-as-before (voiceSpan (voicesOf (headOf f)) n) (at-number n)))

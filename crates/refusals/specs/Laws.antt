@@ -5,7 +5,7 @@
 -- firstFailed, first-append   a list in two parts: the second counts where the first passes
 -- testedAll, tested-first     tests made one by one have the list's verdict
 -- first-above                 the number with which tests refuse is above 0
--- refused-once                a refusal is known by its number and place
+-- accepted-once, refused-once   what is accepted is known by its value, a refusal by its number and place
 -- two-ways                    nothing is both accepted and refused
 -- guarded-passed, guarded-accepted   what comes after tests is accepted only where they pass
 use Prim.Native.Nat.{ℕ, _<_}
@@ -74,6 +74,10 @@ tested-first (t ∷ ts) = cases (t .applies) (λ e. rw e (tested-failed (numberO
 pub two-ways : {A : Type 0} {a : A} {n p : ℕ} → refused n p ≡ accepted a → ⊥
 two-ways e = let z : _≡_ {A = ℕ} 0 1 = cc in omega arith
 
+-- Something accepted is known by its value.
+pub accepted-once : {A : Type 0} {a b : A} → _≡_ {A = Outcome A} (accepted a) (accepted b) → a ≡ b
+accepted-once e = cc
+
 -- What comes after tests is accepted only where they pass.
 pub guarded-passed : {A : Type 0} (v : Verdict) (o : Outcome A) (a : A) → guarded v o ≡ accepted a → (v ≡ Passed) × (o ≡ accepted a)
 guarded-passed Passed o a e = (refl, e)
@@ -81,10 +85,7 @@ guarded-passed (Failed n) o a e = absurd (two-ways e)
 
 -- Where a value comes after tests, something is accepted only where they pass, and it is that value.
 pub guarded-accepted : {A : Type 0} (v : Verdict) (a b : A) → guarded v (accepted b) ≡ accepted a → (v ≡ Passed) × (b ≡ a)
-guarded-accepted v a b e = let p = guarded-passed v (accepted b) a e in (p .0, same (p .1))
-  where
-    same : accepted b ≡ accepted a → b ≡ a
-    same q = cc
+guarded-accepted v a b e = let p = guarded-passed v (accepted b) a e in (p .0, accepted-once (p .1))
 
 -- A refusal is known by its number and place.
 pub refused-once : {X : Type 0} (x y : Refusal) → _≡_ {A = Outcome X} (refused (x .number) (x .place)) (refused (y .number) (y .place)) → x ≡ y

@@ -3,8 +3,8 @@
 -- bumped              BMP: 03 UP, 0B DN
 -- switched, onlyYes   NO and YES, each with its second byte; 3-0, which has YES alone
 -- counted             first byte 01, the value in the second byte's upper bits
--- phraseFrom, phrase  CAL and DEF: 0 to 15 in one row, 16 and a least number to 23 in another; that least
---                     number is 0
+-- phraseFrom          CAL and DEF: 0 to 15 in one row, 16 and a least number to 23 in another
+-- phrase              the same where that least number is 0, so 0 to 23
 -- destination         DST: '000=0, 010=1, 101=2, 110=3'
 -- alone               'Second byte is the value'
 -- joined              'the first byte's bits stand above the second byte'

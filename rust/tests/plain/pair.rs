@@ -214,7 +214,7 @@ fn read_second(second: u8) -> Result<(Command, i32), u32> {
         0x0 => (Dcy, high),
         0x1 | 0x9 => (Rup, five),
         0x2 => (Cal, high),
-        // the pattern 1nnn holds, not its remark: 8 to F are 16 to 23
+        // 004's pattern 1nnn holds, so 8 to F are 16 to 23; its remark says 9-F
         0x3 if high >= 8 => (Def, high + 8),
         0xB if high >= 8 => (Cal, high + 8),
         0x3 if switch(high) == ThreeOff => return Err(UNASSIGNED),
