@@ -1,5 +1,5 @@
-//! Phrase 16: 01 83 is DEF 16 and 01 8B is CAL 16. Small files, each with the answer that document 01, corrected
-//! by request (ii), gives, worked out by hand; both readers must give it.
+//! Phrase 16: 01 83 is DEF 16 and 01 8B is CAL 16. Small files, each with the answer that document 01,
+//! corrected by request (ii), gives, worked out by hand; both readers must give it.
 
 mod plain;
 

@@ -1,15 +1,17 @@
--- A table of 256 codes agrees with source 004's rows, by one test over its entries.
+-- A table of codes agrees with source 004's rows, by one test over its entries.
 -- command-back   a command comes back from its number
--- agrees         a table whose entries pass the test gives each second byte's meaning
+-- right          an entry is that of a byte's row
+-- entries-right  a table whose entries are right gives each second byte's meaning
+-- agrees         so does the code's table
 use Prim.Native.Nat.{ℕ, _/_, _%_, _<_}
 use mathlib.Core.Path.{_≡_, refl}
 use mathlib.Core.Bool.{Bool, _&&_}
 use mathlib.Core.List.{List, [], _∷_}
 use lib.Dec.{T, eqb, eqb→eq}
-use lib.ListN.{getD}
+use lib.ListN.{length, getD}
 use native.Mathlib.Nat.{zero-add}
 use Rattle.logic.specs.Every.{each, each-at, all-left, all-right}
-use Rattle.commandtable.specs.Codes.{Command, DCY, RUP, CAL, BMP, FLT, RNG, SNC, F-X, DEF, ATK, SUS, LFO, P&V, RDN, WAV, F-M, RLS, RES, 3-0, VOL, TAL, END, HLT, SRC, DST, none, secondMeans, commandMeaning, secondOutcome}
+use Rattle.commandtable.specs.Codes.{Command, DCY, RUP, CAL, BMP, FLT, RNG, SNC, F-X, DEF, ATK, SUS, LFO, P&V, RDN, WAV, F-M, RLS, RES, 3-0, VOL, TAL, END, HLT, SRC, DST, none, Row, rows, secondBy, commandMeaning, secondOutcome}
 use Rattle.commandtable.specs.Numbering.{commandNumber, commandNumbered}
 
 pub command-back : (c : Command) → commandNumbered (commandNumber c) ≡ c
@@ -40,8 +42,21 @@ command-back SRC = refl
 command-back DST = refl
 command-back none = refl
 
-abbrev pub right : ℕ → ℕ → Bool
-right b x = eqb (x / 256) (commandNumber (secondMeans b .command)) && eqb (x % 256) (secondMeans b .value)
+abbrev pub right : List Row → ℕ → ℕ → Bool
+right rs b x = eqb (x / 256) (commandNumber (secondBy rs b .command)) && eqb (x % 256) (secondBy rs b .value)
+
+pub entries-right : (rs : List Row) (table : List ℕ) → T (each (right rs) 0 table) → (b : ℕ) → b < length table
+    → commandMeaning (commandNumbered (getD table b 0 / 256)) (getD table b 0 % 256)
+    ≡ commandMeaning (secondBy rs b .command) (secondBy rs b .value)
+entries-right rs table t b h =
+    let x = getD table b 0 in
+    let r : T (right rs b x) = rw (zero-add b) at (each-at (right rs) table 0 b t h) in
+    let k = secondBy rs b .command in
+    let command = eqb (x / 256) (commandNumber k) in
+    let value = eqb (x % 256) (secondBy rs b .value) in
+    let c = eqb→eq (x / 256) (commandNumber k) (all-left command value r) in
+    let v = eqb→eq (x % 256) (secondBy rs b .value) (all-right command value r) in
+    rw (c, v, command-back k)
 
 -- the code's table, which the proof of its reader holds to be this
 abbrev pub codes : List ℕ
@@ -64,14 +79,8 @@ codes =
     ∷ 0x010F ∷ 0x021E ∷ 0x030F ∷ 0x0917 ∷ 0x0B0E ∷ 0x0E1E ∷ 0x090F ∷ 0x1007 ∷ 0x110F ∷ 0x021F ∷ 0x120F ∷ 0x0317 ∷ 0x0B0F ∷ 0x0E1F ∷ 0x140F ∷ 0x0000
     ∷ []
 
-all-right-entries : T (each right 0 codes)
+all-right-entries : T (each (right rows) 0 codes)
 all-right-entries = tt
 
 pub agrees : (b : ℕ) → b < 256 → commandMeaning (commandNumbered (getD codes b 0 / 256)) (getD codes b 0 % 256) ≡ secondOutcome b
-agrees b h =
-    let x = getD codes b 0 in
-    let r : T (right b x) = rw (zero-add b) at (each-at right codes 0 b all-right-entries h) in
-    let k = secondMeans b .command in
-    let c = eqb→eq (x / 256) (commandNumber k) (all-left (eqb (x / 256) (commandNumber k)) (eqb (x % 256) (secondMeans b .value)) r) in
-    let v = eqb→eq (x % 256) (secondMeans b .value) (all-right (eqb (x / 256) (commandNumber k)) (eqb (x % 256) (secondMeans b .value)) r) in
-    rw (c, v, command-back k)
+agrees b h = entries-right rows codes all-right-entries b h

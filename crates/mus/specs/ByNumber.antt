@@ -1,5 +1,5 @@
--- A file's head is right exactly where its refusal, if there is one, has a number above 24; so is its container
--- where the number is above 26.
+-- A file's head is right exactly where its refusal, if there is one, has a number above 24. A number up to 26
+-- comes from its container.
 -- Above         a refusal's number is above another number
 -- voice-above   a voice is refused with a number above 26
 -- head-above    a file whose head is right is refused with a number above 24
@@ -114,7 +114,7 @@ module _ (f : List ℕ) where
       go (accepted l) q = tt
       go (refused n p) q = text-number f v n p e q
 
-  -- A file that is refused with a number up to 26 is refused so by its container, before any voice is looked at.
+  -- A file that is refused with a number up to 26 is refused so by its container.
   pub low-number : (n p : ℕ) → musOutcome f ≡ refused n p → n ≤ 26 → containerOutcome f ≡ refused n p
   unfolding songBy
   low-number n p e low = go (containerOutcome f) e

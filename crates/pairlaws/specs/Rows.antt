@@ -1,6 +1,6 @@
 -- Source 004's tables: their rows lie apart, so that their order says nothing, and the bytes that fit none
--- are those that document 01, as corrected by request (ii), lists; of first bytes also the notes' and 01, which
--- have their own tables.
+-- are those that document 01, as corrected by request (ii), lists; of first bytes also the notes' and 01,
+-- which have their own tables.
 -- holding, rowsFitting   how many rows a byte fits, after 01 and as a first byte
 -- seconds-apart          no second byte after 01 fits two rows
 -- unassignedSeconds, seconds-unassigned   'Unassigned: 53 6F 7F 9F BF CF FF' as corrected, after 01

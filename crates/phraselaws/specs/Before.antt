@@ -1,5 +1,6 @@
 -- The earlier reader, that of the first release, before request (ii): the definitions of today with one other
--- number. The rows 1nnn of DEF and CAL began at 1 then, so that phrase 16 had no pair. No code has this.
+-- number. The rows 1nnn of DEF and CAL began at 1 then, so that phrase 16 had no pair; Table.antt
+-- holds these rows to the table that the first release had. No code has this.
 -- meaningBefore    a pair's meaning, or 27 or 28, by the earlier table
 -- spellingBefore   a meaning's two bytes, or 43, by the earlier writer
 -- pairsBefore      the stored pairs of a voice; with it songBy, askedBy and listingBy are the earlier answers

@@ -70,7 +70,8 @@ filled-same es gs first os js (accepted v) same = λ i. windowOf v (same v refl 
 filled-same es gs first os js (refused n p) same = refl
 
 module _ (f : List ℕ) where
-  -- a reader that gives a file today's outcome, and each voice of an accepted file today's pairs, lists as today
+  -- a reader that gives a file today's outcome, and each voice of an accepted file today's pairs, gives today's
+  -- listings
   listed-so : (read : Reader) → songBy read f ≡ musOutcome f
       → ((s : Song) (n : ℕ) → musOutcome f ≡ accepted s
       → read (bytesOf f (songVoice s n)) ≡ pairs (bytesOf f (songVoice s n)))

@@ -1,4 +1,5 @@
 pub mod Before
+pub mod Table
 pub mod Pairs
 pub mod Files
 pub mod Accepted
