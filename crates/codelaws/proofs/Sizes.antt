@@ -47,7 +47,8 @@ module _ (v : ℕ) {y : Bytes} where
   pub phrase-small : (low high : ℕ) → phrase v low high ≡ accepted y → v ≤ 23
   phrase-small low high e =
       cases (leb v 15) (λ p. omega (arith, leb-true v 15 p))
-      (λ p. let q = tested (leb 16 v && leb v 23) (pair 1 (high + 16 * (v - 16))) (rw p at e) in leb-true v 23 (both-right (leb 16 v) (leb v 23) q))
+      (λ p. let q = tested (leb 16 v && leb v 23) (pair 1 (high + 16 * (v - 16))) (rw p at e) in
+      leb-true v 23 (both-right (leb 16 v) (leb v 23) q))
 
   pub destination-small : destination v ≡ accepted y → v ≤ 3
   destination-small e =

@@ -53,6 +53,7 @@ module _ (f : List ℕ) (voice first : ℕ) (os js : List ℕ) where
     unfolding listingBy
     lengths-refused n = rw (inside, ne-eqb (length os) (length js) n)
 
-    pub voice-answered : length os ≡ length js → (o : Outcome Voice) → o ≡ voiceAsked f voice → filledBy (playedIn f) first os js o ≡ listing f voice first os js
+    pub voice-answered : length os ≡ length js → (o : Outcome Voice) → o ≡ voiceAsked f voice
+        → filledBy (playedIn f) first os js o ≡ listing f voice first os js
     unfolding listingBy
     voice-answered e o q = rw (inside, eq-eqb (length os) (length js) e, q)

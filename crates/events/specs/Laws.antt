@@ -72,7 +72,9 @@ module _ (f : List ℕ) (voice first : ℕ) (os js : List ℕ) where
 
   -- With both in order the call goes by the file: its own refusal, or its voice ('40, 41 and 42 are tested
   -- before the file, in that order').
-  pub file-last : ltb voice 1 || ltb 3 voice ≡ false → length os ≡ length js → listing f voice first os js ≡ filledBy (playedIn f) first os js (andThen (musOutcome f) (λ s. accepted (songVoice s voice)))
+  pub file-last : ltb voice 1 || ltb 3 voice ≡ false → length os ≡ length js
+      → listing f voice first os js
+      ≡ filledBy (playedIn f) first os js (andThen (musOutcome f) (λ s. accepted (songVoice s voice)))
   unfolding listingBy
   file-last e same = rw (e, eq-eqb (length os) (length js) same, file-next f voice e)
 
@@ -81,7 +83,8 @@ module _ (f : List ℕ) (voice first : ℕ) (os js : List ℕ) where
   unfolding listingBy
   refused-unchanged {number} {place} e = go (guarded (firstOf (callerTests voice (length os) (length js))) (voiceAsked f voice)) e
     where
-      go : (o : Outcome Voice) → filledBy (playedIn f) first os js o .answer ≡ refused number place → (filledBy (playedIn f) first os js o .offsets ≡ os) × (filledBy (playedIn f) first os js o .jiffies ≡ js)
+      go : (o : Outcome Voice) → filledBy (playedIn f) first os js o .answer ≡ refused number place
+          → (filledBy (playedIn f) first os js o .offsets ≡ os) × (filledBy (playedIn f) first os js o .jiffies ≡ js)
       go (accepted v) q = absurd (two-ways (sym q))
       go (refused n p) q = (refl, refl)
 
@@ -90,7 +93,8 @@ module _ (f : List ℕ) (voice first : ℕ) (os js : List ℕ) where
   unfolding listingBy
   accepted-window {n} e = go (guarded (firstOf (callerTests voice (length os) (length js))) (voiceAsked f voice)) refl e
     where
-      go : (o : Outcome Voice) → guarded (firstOf (callerTests voice (length os) (length js))) (voiceAsked f voice) ≡ o → filledBy (playedIn f) first os js o .answer ≡ accepted n → Answered f voice first os js
+      go : (o : Outcome Voice) → guarded (firstOf (callerTests voice (length os) (length js))) (voiceAsked f voice) ≡ o
+          → filledBy (playedIn f) first os js o .answer ≡ accepted n → Answered f voice first os js
       go (accepted v) q h =
           let passed = guarded-passed (firstOf (callerTests voice (length os) (length js))) (voiceAsked f voice) v q in
           let none = passed-none (callerTests voice (length os) (length js)) (passed .0) in

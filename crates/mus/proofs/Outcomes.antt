@@ -67,13 +67,18 @@ module _ (f : List ℕ) (l : Layout) where
   pub first-refused : (n p : ℕ) → voiceIn pairs f (l .voice1) ≡ refused n p → songIn (voiceIn pairs f) l ≡ refused n p
   first-refused n p e = rw e
 
-  pub second-refused : (v1 : Voice) (n p : ℕ) → voiceIn pairs f (l .voice1) ≡ accepted v1 → voiceIn pairs f (l .voice2) ≡ refused n p → songIn (voiceIn pairs f) l ≡ refused n p
+  pub second-refused : (v1 : Voice) (n p : ℕ) → voiceIn pairs f (l .voice1) ≡ accepted v1
+      → voiceIn pairs f (l .voice2) ≡ refused n p → songIn (voiceIn pairs f) l ≡ refused n p
   second-refused v1 n p e g = rw (e, g)
 
-  pub third-refused : (v1 v2 : Voice) (n p : ℕ) → voiceIn pairs f (l .voice1) ≡ accepted v1 → voiceIn pairs f (l .voice2) ≡ accepted v2 → voiceIn pairs f (l .voice3) ≡ refused n p → songIn (voiceIn pairs f) l ≡ refused n p
+  pub third-refused : (v1 v2 : Voice) (n p : ℕ) → voiceIn pairs f (l .voice1) ≡ accepted v1
+      → voiceIn pairs f (l .voice2) ≡ accepted v2 → voiceIn pairs f (l .voice3) ≡ refused n p
+      → songIn (voiceIn pairs f) l ≡ refused n p
   third-refused v1 v2 n p e g h = rw (e, g, h)
 
-  pub all-sound : (v1 v2 v3 : Voice) → voiceIn pairs f (l .voice1) ≡ accepted v1 → voiceIn pairs f (l .voice2) ≡ accepted v2 → voiceIn pairs f (l .voice3) ≡ accepted v3 → songIn (voiceIn pairs f) l ≡ accepted (songWith l v1 v2 v3)
+  pub all-sound : (v1 v2 v3 : Voice) → voiceIn pairs f (l .voice1) ≡ accepted v1
+      → voiceIn pairs f (l .voice2) ≡ accepted v2 → voiceIn pairs f (l .voice3) ≡ accepted v3
+      → songIn (voiceIn pairs f) l ≡ accepted (songWith l v1 v2 v3)
   all-sound v1 v2 v3 e g h = rw (e, g, h)
 
   pub in-file : containerOutcome f ≡ accepted l → InFile f l

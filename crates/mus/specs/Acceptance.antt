@@ -141,7 +141,8 @@ accepted-clear f s e =
     (λ v2. andThen (voiceIn pairs f (l .voice3)) (λ v3. accepted (songWith l v1 v2 v3)))) s (right .gives) in
     let two = then-given (voiceIn pairs f (l .voice2))
     (λ v2. andThen (voiceIn pairs f (l .voice3)) (λ v3. accepted (songWith l (one .value) v2 v3))) s (one .gives) in
-    let three = then-given (voiceIn pairs f (l .voice3)) (λ v3. accepted (songWith l (one .value) (two .value) v3)) s (two .gives) in
+    let three = then-given (voiceIn pairs f (l .voice3))
+    (λ v3. accepted (songWith l (one .value) (two .value) v3)) s (two .gives) in
     let first = voice-passes (l .voice1 .from) (partOf f (l .voice1)) (one .value) (one .was) in
     let second = voice-passes (l .voice2 .from) (partOf f (l .voice2)) (two .value) (two .was) in
     let third = voice-passes (l .voice3 .from) (partOf f (l .voice3)) (three .value) (three .was) in

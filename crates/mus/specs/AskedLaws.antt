@@ -64,7 +64,12 @@ module _ (f : List ℕ) (n : ℕ) where
   asked-accepted v e =
       let passed = guarded-passed (firstOf (numberTests n)) (andThen (musOutcome f) (λ s. accepted (songVoice s n))) v e in
       let given = then-given (musOutcome f) (λ s. accepted (songVoice s n)) v (passed .1) in
-      record { number = passed-none (numberTests n) (passed .0) .0; song = given .value; file = given .was; voice = accepted-once (given .gives) }
+      record {
+        number = passed-none (numberTests n) (passed .0) .0;
+        song = given .value;
+        file = given .was;
+        voice = accepted-once (given .gives);
+      }
 
 -- a part of a list, taken by its own length
 take-own : (n : ℕ) (l : List ℕ) → take (length (take n l)) l ≡ take n l
@@ -78,7 +83,8 @@ pub voice-bytes : (f : List ℕ) (s : Song) (n : ℕ) → musOutcome f ≡ accep
 unfolding songOf layoutOf
 voice-bytes f s n e =
     let l = layoutOf f in
-    let own : (x : Span) → take (length (partOf f x)) (drop (x .from) f) ≡ partOf f x = λ x. take-own (x .len) (drop (x .from) f) in
+    let own : (x : Span) → take (length (partOf f x)) (drop (x .from) f) ≡ partOf f x =
+    λ x. take-own (x .len) (drop (x .from) f) in
     subst (λ (x : Song). bytesOf f (songVoice x n) ≡ partOf f (voiceSpan (voicesOf (headOf f)) n)) (accepted-clear f s e .1)
     (cases (eqb n 1) (λ a. rw a (own (l .voice1)))
     (λ a. cases (eqb n 2) (λ b. rw (a, b) (own (l .voice2))) (λ b. rw (a, b) (own (l .voice3)))))

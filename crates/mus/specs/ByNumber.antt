@@ -85,7 +85,8 @@ voice-above offset bs =
     (limited-above offset (length bs) v))
 
 -- an outcome that comes after another
-then-above : {A B : Type 0} (k : ℕ) (o : Outcome A) (g : A → Outcome B) → Above k o → ((a : A) → Above k (g a)) → Above k (andThen o g)
+then-above : {A B : Type 0} (k : ℕ) (o : Outcome A) (g : A → Outcome B)
+    → Above k o → ((a : A) → Above k (g a)) → Above k (andThen o g)
 then-above k (accepted a) g l h = h a
 then-above k (refused n p) g l h = l
 
@@ -99,9 +100,10 @@ module _ (f : List ℕ) where
 
   song-above : (l : Layout) → Above 26 (songIn (voiceIn pairs f) l)
   song-above l =
-      then-above 26 (voiceIn pairs f (l .voice1)) (λ v1. andThen (voiceIn pairs f (l .voice2)) (λ v2. andThen (voiceIn pairs f (l .voice3)) (λ v3. accepted (songWith l v1 v2 v3)))) (span-above (l .voice1))
-      (λ v1. then-above 26 (voiceIn pairs f (l .voice2)) (λ v2. andThen (voiceIn pairs f (l .voice3)) (λ v3. accepted (songWith l v1 v2 v3))) (span-above (l .voice2))
-      (λ v2. then-above 26 (voiceIn pairs f (l .voice3)) (λ v3. accepted (songWith l v1 v2 v3)) (span-above (l .voice3)) (λ v3. tt)))
+      let voice = voiceIn pairs f in
+      then-above 26 (voice (l .voice1)) _ (span-above (l .voice1))
+      (λ v1. then-above 26 (voice (l .voice2)) _ (span-above (l .voice2))
+      (λ v2. then-above 26 (voice (l .voice3)) (λ v3. accepted (songWith l v1 v2 v3)) (span-above (l .voice3)) (λ v3. tt)))
 
   -- A file to whose head none of 21 to 24 applies is refused with a number above 24, or accepted.
   pub head-above : (v : Voices) → headOutcome f ≡ accepted v → Above 24 (musOutcome f)

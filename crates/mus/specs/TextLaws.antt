@@ -67,7 +67,8 @@ module _ (f : List ℕ) (n : ℕ) where
   line-text s e =
       let given = then-given (musOutcome f) (λ s. accepted (songLine s n)) (lies s) e in
       let song : songOf f ≡ given .value = accepted-clear f (given .value) (given .was) .1 in
-      let is : songLine (songOf f) n ≡ lies s = subst (λ (x : Song). songLine x n ≡ lies s) (sym song) (accepted-once (given .gives)) in
+      let is : songLine (songOf f) n ≡ lies s =
+      subst (λ (x : Song). songLine x n ≡ lies s) (sym song) (accepted-once (given .gives)) in
       let parts = lines-part f in
       cases (eqb n 1) (λ a. named 0 s _ (lit≤ tt) a (rw a at is) (parts .0))
       (λ a. cases (eqb n 2) (λ b. named 1 s _ (lit≤ tt) b (rw (a, b) at is) (parts .1))

@@ -34,7 +34,8 @@ module _ (f : List ℕ) where
           let v = songVoice (w .song) voice in
           let i = in-song f (w .song) voice (w .file) in
           let walked = ltb-false 1048576 (walkedOf (pairs (bytesOf f v))) (i .passes .limits .1 .0) in
-          let is : countOf (length os) first (playedIn f v) ≡ count = accepted-once (sym (ap (λ (l : Listing). l .answer) (w .window)) ∙ e) in
+          let is : countOf (length os) first (playedIn f v) ≡ count =
+          accepted-once (sym (ap (λ (l : Listing). l .answer) (w .window)) ∙ e) in
           omega (arith, is, walked, events-walked (pairs (bytesOf f v)))
 
   pub mus-answers : MusAnswers f

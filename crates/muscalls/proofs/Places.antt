@@ -66,13 +66,17 @@ voice-low f s short low =
 
 pub mus-low : (f : List ℕ) → LowPlace (musOutcome f)
 unfolding songBy containerOutcome
-mus-low f = then-low (containerOutcome f) (λ l. songIn (voiceIn pairs f) l) (tests-low (containerTests f) (accepted (layoutOf f)) tt) (λ l e. song-low l (in-file f l e))
+mus-low f =
+    then-low (containerOutcome f) (λ l. songIn (voiceIn pairs f) l)
+    (tests-low (containerTests f) (accepted (layoutOf f)) tt) (λ l e. song-low l (in-file f l e))
   where
     song-low : (l : Layout) → InFile f l → LowPlace (songIn (voiceIn pairs f) l)
     song-low l i =
-        then-low (voiceIn pairs f (l .voice1)) (λ v1. andThen (voiceIn pairs f (l .voice2)) (λ v2. andThen (voiceIn pairs f (l .voice3)) (λ v3. accepted (songWith l v1 v2 v3)))) (voice-low f (l .voice1) (i .short) (i .voice1))
-        (λ v1 e1. then-low (voiceIn pairs f (l .voice2)) (λ v2. andThen (voiceIn pairs f (l .voice3)) (λ v3. accepted (songWith l v1 v2 v3))) (voice-low f (l .voice2) (i .short) (i .voice2))
-        (λ v2 e2. then-low (voiceIn pairs f (l .voice3)) (λ v3. accepted (songWith l v1 v2 v3)) (voice-low f (l .voice3) (i .short) (i .voice3)) (λ v3 e3. tt)))
+        let voice = voiceIn pairs f in
+        then-low (voice (l .voice1)) _ (voice-low f (l .voice1) (i .short) (i .voice1))
+        (λ v1 e1. then-low (voice (l .voice2)) _ (voice-low f (l .voice2) (i .short) (i .voice2))
+        (λ v2 e2. then-low (voice (l .voice3)) (λ v3. accepted (songWith l v1 v2 v3))
+        (voice-low f (l .voice3) (i .short) (i .voice3)) (λ v3 e3. tt)))
 
 asked-low : (f : List ℕ) (voice : ℕ) → LowPlace (voiceAsked f voice)
 unfolding askedBy

@@ -98,8 +98,9 @@ module _ (f : List ℕ) (n p : ℕ) where
   names : (k : ℕ) (v : Voices) → (1 ≤ k) × (k ≤ 3) → PairAt (voiceSpan v k) p → PairNamed v p
   names k v within at = record { voice = k; pair = at .pair; number = within; stored = at .stored; stands = at .stands }
 
-  voices-named : songIn (voiceIn pairs f) (layoutOf f) ≡ refused n p → VoiceFits f (layoutOf f .voice1) → VoiceFits f (layoutOf f .voice2)
-      → VoiceFits f (layoutOf f .voice3) → PairNamed (voicesOf (headOf f)) p
+  voices-named : songIn (voiceIn pairs f) (layoutOf f) ≡ refused n p
+      → VoiceFits f (layoutOf f .voice1) → VoiceFits f (layoutOf f .voice2) → VoiceFits f (layoutOf f .voice3)
+      → PairNamed (voicesOf (headOf f)) p
   unfolding layoutOf
   voices-named e fits1 fits2 fits3 =
       let l = layoutOf f in

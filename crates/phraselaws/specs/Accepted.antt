@@ -73,9 +73,12 @@ module _ (f : List ℕ) (s : Song) (was : songBy pairsBefore f ≡ accepted s) w
       let three = then-given (voice (l .voice3)) (λ v3. accepted (songWith l (one .value) (two .value) v3)) s (two .gives) in
       let lies = sym (layout-of f l (right .was)) in
       record {
-        voice1 = subst (λ (x : Layout). Without (partOf f (x .voice1))) lies (voice-without f (l .voice1) (one .value) (one .was));
-        voice2 = subst (λ (x : Layout). Without (partOf f (x .voice2))) lies (voice-without f (l .voice2) (two .value) (two .was));
-        voice3 = subst (λ (x : Layout). Without (partOf f (x .voice3))) lies (voice-without f (l .voice3) (three .value) (three .was));
+        voice1 = subst (λ (x : Layout). Without (partOf f (x .voice1))) lies
+            (voice-without f (l .voice1) (one .value) (one .was));
+        voice2 = subst (λ (x : Layout). Without (partOf f (x .voice2))) lies
+            (voice-without f (l .voice2) (two .value) (two .was));
+        voice3 = subst (λ (x : Layout). Without (partOf f (x .voice3))) lies
+            (voice-without f (l .voice3) (three .value) (three .was));
       }
 
   -- so it is accepted now, with the same report,

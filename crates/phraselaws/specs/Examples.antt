@@ -53,7 +53,9 @@ pub called-accepted : (musOutcome sixteenCalled
       line5 = record { from = 26; len = 0 };
     }))
     × (songBy pairsBefore sixteenCalled ≡ refused 27 8)
-unfolding songBy voiceBy le16 headOf lineBytes lineOf textOf layoutOf containerTests containerOutcome pairsBy pairs pairsBefore inner outer withPair bodies bodyOf interpret phrases copies played eventsOf walkedOf depthOf firstAt pairsTests nestingsTests pairsFinding structureFinding
+unfolding songBy voiceBy le16 headOf lineBytes lineOf textOf layoutOf containerTests containerOutcome
+    pairsBy pairs pairsBefore inner outer withPair bodies bodyOf interpret phrases copies played eventsOf walkedOf
+    depthOf firstAt pairsTests nestingsTests pairsFinding structureFinding
 called-accepted = (refl, refl)
 
 abbrev listed : Listing
@@ -61,7 +63,8 @@ listed = listing sixteenCalled 1 0 (90 ∷ 91 ∷ 92 ∷ 93 ∷ []) (80 ∷ 81 �
 
 -- Its first voice fills three cells, and the fourth keeps what it held.
 pub called-listed : listed ≡ record { answer = accepted 3; offsets = 10 ∷ 10 ∷ 16 ∷ 93 ∷ []; jiffies = 0 ∷ 1 ∷ 3 ∷ 83 ∷ [] }
-unfolding listingBy askedBy playedBy offsetsOf jiffiesOf lengths sum timeOf jiffyOf numbers jiffies lengthOf valuesAfter pairsBy pairs inner outer withPair bodies bodyOf interpret phrases copies played
+unfolding listingBy askedBy playedBy offsetsOf jiffiesOf lengths sum timeOf jiffyOf numbers jiffies lengthOf
+    valuesAfter pairsBy pairs inner outer withPair bodies bodyOf interpret phrases copies played
 called-listed = rw (called-accepted .0)
 
 abbrev pub sixteenEarly : List ℕ
@@ -69,5 +72,7 @@ sixteenEarly = fileWith (0x01 ∷ 0x8B ∷ 0x01 ∷ 0x83 ∷ 0x20 ∷ 0x94 ∷ 0
 
 -- A file that calls phrase 16 before it is defined is refused now too, with 30 at the CAL.
 pub early-refused : (musOutcome sixteenEarly ≡ refused 30 8) × (songBy pairsBefore sixteenEarly ≡ refused 27 8)
-unfolding songBy voiceBy le16 headOf lineBytes lineOf textOf layoutOf containerTests containerOutcome pairsBy pairs pairsBefore inner outer withPair bodies bodyOf interpret phrases copies played eventsOf walkedOf depthOf firstAt pairsTests nestingsTests pairsFinding structureFinding
+unfolding songBy voiceBy le16 headOf lineBytes lineOf textOf layoutOf containerTests containerOutcome
+    pairsBy pairs pairsBefore inner outer withPair bodies bodyOf interpret phrases copies played eventsOf walkedOf
+    depthOf firstAt pairsTests nestingsTests pairsFinding structureFinding
 early-refused = (refl, refl)

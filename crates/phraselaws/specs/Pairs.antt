@@ -68,10 +68,13 @@ one-alike : (m k : Meaning) (z : Outcome Bytes) → spellingOf k ≡ z → T (on
     → Alike (accepted m) (accepted k)
 one-alike m k (refused n p) e t = absurd t
 one-alike m k (accepted bytes) e t =
-    let before = bytes-same (spellingBefore m) bytes (all-left (sameBytes (spellingBefore m) bytes) (sameBytes (spellingOf m) bytes) t) in
-    let now = bytes-same (spellingOf m) bytes (all-right (sameBytes (spellingBefore m) bytes) (sameBytes (spellingOf m) bytes) t) in
-    let reads = reading-and-writing .written-reads in
-    let one : m ≡ k = accepted-once (sym (reads m (bytes .first) (bytes .second) now .0) ∙ reads k (bytes .first) (bytes .second) e .0) in
+    let old = sameBytes (spellingBefore m) bytes in
+    let new = sameBytes (spellingOf m) bytes in
+    let before = bytes-same (spellingBefore m) bytes (all-left old new t) in
+    let now = bytes-same (spellingOf m) bytes (all-right old new t) in
+    let one-reads = reading-and-writing .written-reads m (bytes .first) (bytes .second) now in
+    let other-reads = reading-and-writing .written-reads k (bytes .first) (bytes .second) e in
+    let one : m ≡ k = accepted-once (sym (one-reads .0) ∙ other-reads .0) in
     record {
       means = ap accepted one;
       written = λ j q. subst (λ (i : Meaning). spellingBefore i ≡ spellingOf i) (one ∙ accepted-once q) (before ∙ sym now);

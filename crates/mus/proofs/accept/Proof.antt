@@ -12,7 +12,9 @@ accept-voices-requires : tie.Need-accept-voices-requires
 accept-voices-requires c κs = in-file _ _ (sym (c .before .before .before .read-container .ensures) ∙ ap outcomeOfLayout (c .before .l .given .1))
 
 returns : tie.Need-returns
-returns c = sym (container-refused pairs _ _ _ (sym (c .before .before .before .read-container .ensures) ∙ ap outcomeOfLayout (c .before .x .given .1)))
+returns c =
+    sym (container-refused pairs _ _ _
+    (sym (c .before .before .before .read-container .ensures) ∙ ap outcomeOfLayout (c .before .x .given .1)))
 
 returns-2 : tie.Need-returns-2
 returns-2 c = c .accept-voices .ensures ∙ sym (container-fits _ _ (sym (c .before .before .before .before .read-container .ensures) ∙ ap outcomeOfLayout (c .before .before .l .given .1)))

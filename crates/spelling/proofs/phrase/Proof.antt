@@ -15,4 +15,7 @@ returns-3 c =
     rw (lt-leb _ _ past, le-leb 16 _ past, lt-leb _ _ (c .before .if2 .left), c .none .ensures)
 
 pub phrase-spec : {M : Type 1} → statement M
-phrase-spec = tie.close (tie.spec (λ c. search needs) (λ c. search needs) (λ c. search needs) returns (λ c. search needs) (λ c. search needs) (λ c. search needs) (λ c. search needs) (λ c κs. search needs) returns-2 returns-3)
+phrase-spec =
+    tie.close
+    (tie.spec (λ c. search needs) (λ c. search needs) (λ c. search needs) returns
+    (λ c. search needs) (λ c. search needs) (λ c. search needs) (λ c. search needs) (λ c κs. search needs) returns-2 returns-3)
