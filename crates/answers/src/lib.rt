@@ -1,4 +1,6 @@
 // What the calls for C and Rust answer, as one number, and what they put into a list.
+#![tactic(auto)]
+
 ghost use Rattle.std.specs.Prelude.{◌≡◌, ◌+◌, ◌*◌, ◌<◌};
 ghost use Rattle.fields.specs.Parts.{front};
 

@@ -1,5 +1,7 @@
 // The stored pairs of a voice by number, and what each is to the bodies; the definitions of bodies are in
 // specs/.
+#![tactic(auto)]
+
 ghost use Rattle.std.specs.Prelude.{◌≡◌, ◌+◌, ◌*◌, ◌<◌, length};
 ghost use Rattle.kind.specs.Kinds.{kind_of, Numbered};
 ghost use Rattle.bodies.specs.Voice.{bytes_at, pair_at, plain_at};
@@ -8,7 +10,7 @@ ghost use Rattle.bodies.specs.Places.{IsPart};
 use kind::Kind;
 
 // The two bytes of a pair.
-#[derive(Drop)]
+#[derive(Clone, Copy)]
 pub struct Bytes {
     pub first: u8,
     pub second: u8,
@@ -46,7 +48,7 @@ pub fn plain_at(voice: &[u8], i: usize) -> bool
 
 // What a pair is to the bodies: an event, a HED with its number of passes, a DEF or a CAL with its number, or
 // a TAL or END.
-#[derive(Drop)]
+#[derive(Clone, Copy)]
 pub enum Part {
     Plain,
     Repeat(u16),

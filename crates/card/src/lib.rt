@@ -1,5 +1,7 @@
 // What a file of a card is, found from its content: a PSID or RSID tune, a SAP file, a MUS song, or none of
 // these. The calls answer for every file.
+#![tactic(auto)]
+
 ghost use Rattle.std.specs.Prelude.{◌≡◌};
 ghost use Rattle.sid.specs.Answers.{sid_outcome};
 ghost use Rattle.sap.specs.Answers.{sap_outcome};
@@ -15,7 +17,7 @@ use sid::{Header, Kind};
 
 // The answer to a file: a tune, a SAP file or a song that is accepted, one that is refused, or a file that is
 // none of these, with the refusal that a MUS reader gives it.
-#[derive(Drop)]
+#[derive(Clone, Copy)]
 pub enum Judged {
     Tune(Header),
     RefusedTune(Kind, Refusal),
@@ -27,7 +29,7 @@ pub enum Judged {
 }
 
 // The kind of a file, accepted or not.
-#[derive(Drop)]
+#[derive(Clone, Copy)]
 pub enum FileKind {
     Neither,
     Psid,

@@ -1,5 +1,7 @@
 // The calls of a card's files for C and Rust, with answers as docs/INTERFACE.md fixes them: the kind of a
 // file, and the reason for a number. Neither refuses, and neither has a requires.
+#![tactic(auto)]
+
 ghost use Rattle.std.specs.Prelude.{◌≡◌, length};
 ghost use Rattle.fields.specs.Parts.{front};
 ghost use Rattle.card.specs.Kinds.{file_kind};

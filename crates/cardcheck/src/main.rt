@@ -1,5 +1,7 @@
 // Checks the files of a card before it is pressed. Each argument names a file; a line says what the file is,
 // and that the panel takes it or why not. The last line counts them.
+#![tactic(auto)]
+
 use card::Judged;
 use files::Loaded;
 use mus::Song;
@@ -11,7 +13,7 @@ mod lines;
 mod text;
 
 // What came of a file.
-#[derive(Drop)]
+#[derive(Clone, Copy)]
 enum Checked {
     Accepted,
     Refused,

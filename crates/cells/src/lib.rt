@@ -1,9 +1,11 @@
 // Two lent lists filled in step: offsets and jiffies of events, from one event on.
+#![tactic(auto)]
+
 ghost use Rattle.std.specs.Prelude.{◌≡◌, ◌<◌, length};
 ghost use Rattle.cells.specs.Cells.{cursor_after, cells_after};
 
 // How many events are passed over before the first one asked for, and how many cells are filled.
-#[derive(Drop)]
+#[derive(Clone, Copy)]
 pub struct Cursor {
     pub skip: u64,
     pub filled: usize,

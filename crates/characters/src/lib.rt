@@ -1,5 +1,7 @@
 // Characters in lent bytes: the digits, the text and the words that stand at a place, each found in one pass.
 // A place past the end has no byte.
+#![tactic(auto)]
+
 ghost use Rattle.std.specs.Prelude.{◌≡◌, ◌<◌, ◌≤◌, ◌^◌, min, length, drop};
 ghost use Rattle.characters.specs.Characters.{digit_value, is_text_character, leading, stands, digits_of};
 
@@ -7,7 +9,7 @@ ghost use Rattle.characters.specs.Characters.{digit_value, is_text_character, le
 pub const MOST: u32 = 0xFFFFFF;
 
 // How many digits stand at a place, and their number, or MOST where it is greater.
-#[derive(Drop)]
+#[derive(Clone, Copy)]
 pub struct Digits {
     pub len: usize,
     pub value: u32,

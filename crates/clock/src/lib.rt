@@ -1,5 +1,7 @@
 // How long an event lasts, exactly, in 384ths of a jiffy, and which values hold after it, by its pair's two
 // bytes. Internal.
+#![tactic(auto)]
+
 ghost use Rattle.std.specs.Prelude.{◌≡◌};
 ghost use Rattle.pair.specs.Pairs.{meaning_of};
 ghost use Rattle.clock.specs.Lengths.{at_start, length_of, values_after};
@@ -7,7 +9,7 @@ ghost use Rattle.clock.specs.Lengths.{at_start, length_of, values_after};
 mod notes;
 
 // What TEM, UTL and UTV have set.
-#[derive(Drop)]
+#[derive(Clone, Copy)]
 pub struct Values {
     pub tempo: u16,
     pub utl: u16,

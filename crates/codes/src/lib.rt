@@ -1,5 +1,7 @@
 // The code of a meaning, a number that a person can read in hex: docs/INTERFACE.md fixes it.
 // The call answers for every meaning.
+#![tactic(auto)]
+
 ghost use Rattle.std.specs.Prelude.{◌≡◌};
 ghost use Rattle.codes.specs.Coding.{code_of};
 

@@ -1,4 +1,6 @@
 // A command's two bytes read; internal.
+#![tactic(auto)]
+
 ghost use Rattle.std.specs.Prelude.{◌≡◌};
 ghost use Rattle.meaning.specs.Answers.{outcome_of_meaning};
 ghost use Rattle.command.specs.Pair.{command_outcome};

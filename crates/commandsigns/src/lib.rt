@@ -1,4 +1,6 @@
 // Signed values of commands, made from the unsigned numbers that stand in the bytes.
+#![tactic(auto)]
+
 ghost use Rattle.std.specs.Prelude.{◌≡◌};
 ghost use Rattle.meaning.specs.Answers.{outcome_of_meaning};
 ghost use Rattle.commandsigns.specs.Signs.{out_of_range, signed_byte, detuning_of, sca_outcome, tps_outcome, rtp_outcome, jif_outcome};

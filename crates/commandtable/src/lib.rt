@@ -1,4 +1,6 @@
 // The second byte of a pair whose first byte is 01, read by a table of 256 codes.
+#![tactic(auto)]
+
 ghost use Rattle.std.specs.Prelude.{◌≡◌};
 ghost use Rattle.meaning.specs.Answers.{outcome_of_meaning};
 ghost use Rattle.commandtable.specs.Codes.{bump_of, command_meaning, second_outcome};

@@ -8,7 +8,7 @@ use fields::Span;
 use refusals::Verdict;
 
 // The load address and the three voice lengths; size is the file's length.
-#[derive(Drop)]
+#[derive(Clone, Copy)]
 pub struct Head {
     pub size: usize,
     pub load: u16,

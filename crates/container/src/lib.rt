@@ -1,5 +1,7 @@
 // The container of a Sidplayer MUS file in PRG form: its numbers, its three voices and its five lines of
 // text, each as a part of the lent bytes. What the voices hold is not looked at here.
+#![tactic(auto)]
+
 ghost use Rattle.std.specs.Prelude.{◌≡◌};
 ghost use Rattle.container.specs.Head.{outcome_of_head, head_outcome};
 ghost use Rattle.container.specs.Layout.{placed, outcome_of_layout, container_outcome};
@@ -13,7 +15,7 @@ mod text;
 
 // What the numbers at the front of a file say: its load address, where its voices lie, and where they end and
 // the text begins.
-#[derive(Drop)]
+#[derive(Clone, Copy)]
 pub struct Voices {
     pub load: u16,
     pub voice1: Span,
@@ -23,14 +25,14 @@ pub struct Voices {
 }
 
 // The answer to a file's head.
-#[derive(Drop)]
+#[derive(Clone, Copy)]
 pub enum Heading {
     Fits(Voices),
     Refused(Refusal),
 }
 
 // Where everything lies in a file whose container is right.
-#[derive(Drop)]
+#[derive(Clone, Copy)]
 pub struct Layout {
     pub load: u16,
     pub voice1: Span,
@@ -44,7 +46,7 @@ pub struct Layout {
 }
 
 // The answer to a file's container.
-#[derive(Drop)]
+#[derive(Clone, Copy)]
 pub enum Container {
     Fits(Layout),
     Refused(Refusal),

@@ -7,7 +7,7 @@ use fields::Span;
 use refusals::Verdict;
 
 // A line: where it lies, whether it is right, and where the next begins.
-#[derive(Drop)]
+#[derive(Clone, Copy)]
 pub struct Line {
     pub span: Span,
     pub fits: bool,
@@ -15,7 +15,7 @@ pub struct Line {
 }
 
 // The lines of the text, whether the text is right, and where it ends.
-#[derive(Drop)]
+#[derive(Clone, Copy)]
 pub struct Text {
     pub line1: Span,
     pub line2: Span,

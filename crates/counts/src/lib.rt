@@ -1,4 +1,6 @@
 // Depth, events and pairs walked of a voice: one pass over its stored pairs, nothing played.
+#![tactic(auto)]
+
 ghost use Rattle.std.specs.Prelude.{◌≡◌, ◌≤◌, length};
 ghost use Rattle.bodies.specs.Voice.{pairs};
 ghost use Rattle.bodies.specs.Order.{Sound};
@@ -9,14 +11,14 @@ use bodies::Part;
 use tally::Counts;
 
 // The counts of a body, and the number of the pair that closes it.
-#[derive(Drop)]
+#[derive(Clone, Copy)]
 struct Extent {
     counts: Counts,
     at: usize,
 }
 
 // A body's counts, or that it is deeper than is allowed.
-#[derive(Drop)]
+#[derive(Clone, Copy)]
 enum Measured {
     Body(Extent),
     TooDeep,
@@ -78,7 +80,7 @@ fn measure(voice: &[u8], cells: &mut [u64; 24], allowance: u32, from: usize) -> 
 }
 
 // The counts of a voice: its events and pairs walked, or the number of the first of 32 and 33 that applies.
-#[derive(Drop)]
+#[derive(Clone, Copy)]
 pub enum Counted {
     Within(u32, u32),
     Off(u32),

@@ -1,4 +1,6 @@
 // The meaning of a code: docs/INTERFACE.md fixes it. The call answers for every number.
+#![tactic(auto)]
+
 ghost use Rattle.std.specs.Prelude.{◌≡◌};
 ghost use Rattle.meaning.specs.Answers.{outcome_of_meaning};
 ghost use Rattle.decoding.specs.Tables.{no_meaning};

@@ -8,31 +8,31 @@ ghost use Rattle.decoding.specs.Answers.{outcome_of_duration, outcome_of_shape, 
 use meaning::{Accidental, Duration, Letter, Meaning, Note, Pitch, Reading, Shape, Tone};
 
 // What a digit, or two, stand for, or that they stand for nothing.
-#[derive(Drop)]
+#[derive(Clone, Copy)]
 pub enum DurationAt {
     Is(Duration),
     None,
 }
 
-#[derive(Drop)]
+#[derive(Clone, Copy)]
 pub enum ShapeAt {
     Is(Shape),
     None,
 }
 
-#[derive(Drop)]
+#[derive(Clone, Copy)]
 pub enum LetterAt {
     Is(Letter),
     None,
 }
 
-#[derive(Drop)]
+#[derive(Clone, Copy)]
 pub enum AccidentalAt {
     Is(Accidental),
     None,
 }
 
-#[derive(Drop)]
+#[derive(Clone, Copy)]
 pub enum ToneAt {
     Is(Tone),
     None,

@@ -1,5 +1,7 @@
 // The events of a MUS voice in played order, with the file offset and the jiffy of each, as many as two lent
 // lists hold.
+#![tactic(auto)]
+
 ghost use Rattle.std.specs.Prelude.{◌≡◌, ◌-◌, min, length};
 ghost use Rattle.mus.specs.Bounds.{InSong};
 ghost use Rattle.events.specs.Listing.{window_in, listing, outcome_of_listed};
@@ -8,7 +10,7 @@ use mus::{Voice, VoiceAnswer};
 use refusals::Refusal;
 
 // The answer to a listing: how many cells of each list are filled, or why none is.
-#[derive(Drop)]
+#[derive(Clone, Copy)]
 pub enum Listed {
     Count(usize),
     Refused(Refusal),

@@ -1,12 +1,14 @@
 // Numbers, parts and texts in lent bytes, and the copy of bytes into memory. A read past the end gives 0, so
 // that no reader needs to know a length first.
+#![tactic(auto)]
+
 ghost use Rattle.std.specs.Prelude.{◌≡◌, ◌+◌, ◌*◌, ◌≤◌, length, get_or, take, drop};
 ghost use Rattle.fields.specs.Numbers.{be16, be32, le16};
 ghost use Rattle.fields.specs.Parts.{part_of, before, put};
 ghost use Rattle.fields.specs.Entries.{entry_start, entry_at};
 
 // A part of lent bytes: its first byte and how many.
-#[derive(Drop)]
+#[derive(Clone, Copy)]
 pub struct Span {
     pub from: usize,
     pub len: usize,

@@ -1,10 +1,12 @@
 // A file by its name, whole or its first bytes, for programs.
+#![tactic(auto)]
+
 ghost use Rattle.std.specs.Prelude.{◌≡◌, min};
 ghost use Rattle.files.specs.Reading.{ReadInto};
 
 // How many bytes were read; or the machine's error number, where the file was not opened, and where it was
 // opened and not read.
-#[derive(Drop)]
+#[derive(Clone, Copy)]
 pub enum Loaded {
     Bytes(usize),
     NotOpened(i32),

@@ -1,5 +1,7 @@
 // What a pair is to the structure of its voice, found fast from its two bytes. Internal: for our other
 // crates.
+#![tactic(auto)]
+
 ghost use Rattle.std.specs.Prelude.{◌≡◌};
 ghost use Rattle.pair.specs.Pairs.{meaning_of};
 ghost use Rattle.kind.specs.Kinds.{kind_of};
@@ -11,7 +13,7 @@ mod seconds;
 
 // An event, one of the pairs that make bodies, HLT, or a pair that is refused, with the number 27 or 28. HLT
 // is an event too; it has a kind of its own since tests 29 and 30 look for it.
-#[derive(Drop)]
+#[derive(Clone, Copy)]
 pub enum Kind {
     Event,
     Hed(u16),

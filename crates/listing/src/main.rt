@@ -1,5 +1,7 @@
 // Lists the events of a Sidplayer MUS file on standard input in played order, a line an event with its voice,
 // its number, the file offset of its pair and its jiffy; or shows the refusal's number and place.
+#![tactic(auto)]
+
 use events::Listed;
 use libc::{STDIN_FILENO, STDOUT_FILENO};
 use mus::{Reading, Song};

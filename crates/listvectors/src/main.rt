@@ -1,5 +1,7 @@
 // Runs the calls of args, five words each, through the listing of the files of data/, and shows every answer
 // and every lent cell, a line a call. tools/listvectors makes the files and says what each call must give.
+#![tactic(auto)]
+
 ghost use Rattle.std.specs.Prelude.{◌≤◌};
 
 use events::Listed;
@@ -9,7 +11,7 @@ use refusals::Refusal;
 use std::num::{wrapping_add_u32, wrapping_add_u64, wrapping_add_usize, wrapping_sub_u64};
 
 // A call beside its file: of each list, how many cells are lent.
-#[derive(Drop)]
+#[derive(Clone, Copy)]
 struct Call {
     voice: u32,
     first: u64,

@@ -1,4 +1,6 @@
 // What a pair of a MUS voice means: the types, and the half-step of a pitch.
+#![tactic(auto)]
+
 ghost use Rattle.std.specs.Prelude.{◌≡◌};
 ghost use Rattle.meaning.specs.Answers.{outcome_of_step};
 ghost use Rattle.meaning.specs.Pitches.{in_tables, step_outcome};
@@ -7,7 +9,7 @@ use refusals::Refusal;
 
 mod pitches;
 
-#[derive(Drop)]
+#[derive(Clone, Copy)]
 pub enum Duration {
     Whole,
     Half,
@@ -21,7 +23,7 @@ pub enum Duration {
     AbsolutePitch,
 }
 
-#[derive(Drop)]
+#[derive(Clone, Copy)]
 pub enum Shape {
     Plain,
     Dotted,
@@ -29,7 +31,7 @@ pub enum Shape {
     Triplet,
 }
 
-#[derive(Drop)]
+#[derive(Clone, Copy)]
 pub enum Letter {
     C,
     D,
@@ -40,7 +42,7 @@ pub enum Letter {
     B,
 }
 
-#[derive(Drop)]
+#[derive(Clone, Copy)]
 pub enum Accidental {
     Flat,
     Natural,
@@ -50,20 +52,20 @@ pub enum Accidental {
 }
 
 // A pitch as it is written: C sharp is not D flat.
-#[derive(Drop)]
+#[derive(Clone, Copy)]
 pub struct Pitch {
     pub letter: Letter,
     pub accidental: Accidental,
     pub octave: u16,
 }
 
-#[derive(Drop)]
+#[derive(Clone, Copy)]
 pub enum Tone {
     Rest,
     Sounds(Pitch),
 }
 
-#[derive(Drop)]
+#[derive(Clone, Copy)]
 pub struct Note {
     pub duration: Duration,
     pub shape: Shape,
@@ -72,7 +74,7 @@ pub struct Note {
 }
 
 // BMP's two values.
-#[derive(Drop)]
+#[derive(Clone, Copy)]
 pub enum Bump {
     Up,
     Down,
@@ -80,7 +82,7 @@ pub enum Bump {
 
 // A pair's meaning: a note, or a command by source 004's abbreviation with its value. Where 004 has NO and
 // YES, false and true; Wav and Fm hold the number of bits 7-5.
-#[derive(Drop)]
+#[derive(Clone, Copy)]
 pub enum Meaning {
     Note(Note),
     Dcy(u16),
@@ -136,21 +138,21 @@ pub enum Meaning {
 }
 
 // The answer to a pair that is read.
-#[derive(Drop)]
+#[derive(Clone, Copy)]
 pub enum Reading {
     Means(Meaning),
     Refused(Refusal),
 }
 
 // The answer to a meaning that is to be written: the two bytes.
-#[derive(Drop)]
+#[derive(Clone, Copy)]
 pub enum Spelling {
     Bytes(u8, u8),
     Refused(Refusal),
 }
 
 // The answer to a pitch: its half-step, C natural of octave 0 being 0.
-#[derive(Drop)]
+#[derive(Clone, Copy)]
 pub enum HalfStep {
     Step(i32),
     Refused(Refusal),

@@ -1,6 +1,8 @@
 // Internal: the pairs of a voice as a walk over it meets them, and where it goes on after one that is no
 // event. A repeat in progress is kept as the number of its HED times 256 and the passes that are left, this
 // one included; a call as the number of its CAL times 256.
+#![tactic(auto)]
+
 ghost use Rattle.std.specs.Prelude.{◌≡◌, ◌+◌, ◌*◌, ◌/◌, ◌<◌, ◌≤◌, length};
 ghost use Rattle.kind.specs.Kinds.{kind_of};
 ghost use Rattle.bodies.specs.Voice.{pair_at};
@@ -11,7 +13,7 @@ use kind::Kind;
 pub mod noted;
 
 // The pairs that make bodies: HED with its number of passes, DEF and CAL with their numbers, TAL and END.
-#[derive(Drop)]
+#[derive(Clone, Copy)]
 pub enum Move {
     Repeat(u16),
     Phrase(u16),
@@ -21,14 +23,14 @@ pub enum Move {
 }
 
 // A pair in the walk: an event, or a pair that makes bodies.
-#[derive(Drop)]
+#[derive(Clone, Copy)]
 pub enum Next {
     Event,
     Structure(Move),
 }
 
 // The number of the pair that comes next, and how many repeats and calls are in progress.
-#[derive(Drop)]
+#[derive(Clone, Copy)]
 pub struct Place {
     pub at: usize,
     pub depth: usize,

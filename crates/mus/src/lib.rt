@@ -1,5 +1,7 @@
 // Sidplayer MUS files in PRG form: accepted or refused, their voices counted without being played, their text
 // shown. Every call answers for every file and every number; none has a requires.
+#![tactic(auto)]
+
 ghost use Rattle.std.specs.Prelude.{◌≡◌};
 ghost use Rattle.mus.specs.Song.{mus_outcome, outcome_of_song};
 ghost use Rattle.mus.specs.Voices.{outcome_of_voice};
@@ -14,7 +16,7 @@ mod voices;
 
 // A voice of an accepted file: the file offset of its first pair, its length in bytes, and how many events
 // and pairs walked it has when played.
-#[derive(Drop)]
+#[derive(Clone, Copy)]
 pub struct Voice {
     pub offset: usize,
     pub length: usize,
@@ -23,7 +25,7 @@ pub struct Voice {
 }
 
 // What an accepted file says of itself: its load address, its voices, and where its five text lines lie.
-#[derive(Drop)]
+#[derive(Clone, Copy)]
 pub struct Song {
     pub load: u16,
     pub voice1: Voice,
@@ -37,14 +39,14 @@ pub struct Song {
 }
 
 // The answer to a file.
-#[derive(Drop)]
+#[derive(Clone, Copy)]
 pub enum Reading {
     Accepted(Song),
     Refused(Refusal),
 }
 
 // The answer to a voice.
-#[derive(Drop)]
+#[derive(Clone, Copy)]
 pub enum VoiceAnswer {
     Accepted(Voice),
     Refused(Refusal),
@@ -52,7 +54,7 @@ pub enum VoiceAnswer {
 
 // The answer to a caller who names a text line: where it lies, without the $0D that closes it; that there is
 // no line of that number; or the file's refusal.
-#[derive(Drop)]
+#[derive(Clone, Copy)]
 pub enum LineAnswer {
     At(Span),
     NoSuchLine,

@@ -1,5 +1,7 @@
 // The calls of MUS files for C and Rust, with answers as docs/INTERFACE.md fixes them.
 // Each answers for every file and every number; none has a requires.
+#![tactic(auto)]
+
 ghost use Rattle.std.specs.Prelude.{◌≡◌, length};
 ghost use Rattle.mus.specs.Song.{mus_outcome};
 ghost use Rattle.events.specs.Listing.{listing};

@@ -1,5 +1,7 @@
 // Shows a Sidplayer MUS file on standard input as accepted, with its load address, voices and text lines, or
 // the refusal's number and place.
+#![tactic(auto)]
+
 use fields::Span;
 use libc::STDIN_FILENO;
 use mus::{Reading, Song, Voice};

@@ -1,6 +1,8 @@
 // Calls of MUS files for C and Rust, part by part: the load address, a text line, where the voices lie, and
 // how long a voice lasts, with answers as docs/INTERFACE.md fixes them. Each answers for every file and every
 // number; none has a requires.
+#![tactic(auto)]
+
 ghost use Rattle.std.specs.Prelude.{◌≡◌, length};
 ghost use Rattle.container.specs.Head.{head_outcome};
 ghost use Rattle.mus.specs.Song.{mus_outcome};

@@ -1,5 +1,7 @@
 // Runs the hand-made files of data/ through accept and text_line, and shows every answer, a line a file.
 // tools/musvectors makes the files and says what each must give.
+#![tactic(auto)]
+
 use fields::Span;
 use files::Loaded;
 use mus::{LineAnswer, Reading, Song, Voice};

@@ -7,7 +7,7 @@ use crate::Byte;
 use meaning::{Duration, Shape};
 
 // How long a note is: its duration kind, and plain, dotted, double dotted or triplet.
-#[derive(Drop)]
+#[derive(Clone, Copy)]
 pub struct Length {
     pub duration: Duration,
     pub shape: Shape,

@@ -1,4 +1,6 @@
 // A note's two bytes: read, and written in the writer's spelling. Internal.
+#![tactic(auto)]
+
 ghost use Rattle.std.specs.Prelude.{◌≡◌};
 ghost use Rattle.meaning.specs.Answers.{outcome_of_bytes};
 ghost use Rattle.note.specs.Reading.{note_of};
@@ -11,7 +13,7 @@ mod first;
 mod second;
 
 // A byte, or that no byte has this meaning.
-#[derive(Drop)]
+#[derive(Clone, Copy)]
 pub enum Byte {
     Is(u8),
     None,

@@ -1,4 +1,6 @@
 // A pair of a MUS voice: read, and written. Each call answers for every value, and none has a requires.
+#![tactic(auto)]
+
 ghost use Rattle.std.specs.Prelude.{◌≡◌};
 ghost use Rattle.meaning.specs.Answers.{outcome_of_meaning, outcome_of_bytes};
 ghost use Rattle.pair.specs.Pairs.{meaning_of, spelling_of};

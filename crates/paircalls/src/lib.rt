@@ -1,5 +1,7 @@
 // The calls of pairs for C and Rust, with answers as docs/INTERFACE.md fixes them.
 // Each answers for every number; none has a requires.
+#![tactic(auto)]
+
 ghost use Rattle.std.specs.Prelude.{◌≡◌};
 ghost use Rattle.pair.specs.Pairs.{meaning_of};
 ghost use Rattle.codes.specs.Coding.{code_of};

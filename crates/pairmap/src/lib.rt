@@ -1,5 +1,7 @@
 // Internal: a map with one more pair after it, by the pair's two bytes. A pair changes few of the map's
 // numbers, so no map of the pair alone is made.
+#![tactic(auto)]
+
 ghost use Rattle.std.specs.Prelude.{◌≡◌, ◌≤◌};
 ghost use Rattle.pair.specs.Pairs.{meaning_of};
 ghost use Rattle.clock.specs.Settings.{setting_of};

@@ -5,7 +5,7 @@ use meaning::{Bump, Meaning, Note};
 
 // A meaning by what is to be shown: a note, or a command by its number in source 004's order, from 0 on, and
 // its value.
-#[derive(Drop)]
+#[derive(Clone, Copy)]
 enum Shown {
     Note(Note),
     Bare(u8),

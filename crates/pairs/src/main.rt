@@ -1,5 +1,7 @@
 // Shows what each pair of standard input means and how the writer spells that, a line a pair. An odd last
 // byte is no pair and is left out.
+#![tactic(auto)]
+
 use libc::STDIN_FILENO;
 use meaning::{Meaning, Reading, Spelling};
 use printing::{put, put_after, put_hex, write};

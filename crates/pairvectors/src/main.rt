@@ -1,5 +1,7 @@
 // Writes meanings that stand on either side of each range, and shows the bytes or the refusal.
 // tools/pairvectors says what each must give.
+#![tactic(auto)]
+
 mod commands;
 mod notes;
 mod show;

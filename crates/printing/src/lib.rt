@@ -1,4 +1,6 @@
 // What programs print: text put into a lent list, and text written to standard output.
+#![tactic(auto)]
+
 mod digits;
 mod output;
 mod text;

@@ -1,4 +1,6 @@
 // The reason for each number, in words for a person.
+#![tactic(auto)]
+
 ghost use Rattle.std.specs.Prelude.{◌≡◌, length};
 ghost use Rattle.fields.specs.Parts.{front};
 ghost use Rattle.reasons.specs.Phrases.{phrase_at};

@@ -1,5 +1,7 @@
 // What a refused call answers: the numbers of document 01's table 'What comes back' and of document 02's
 // requests by name, a refusal with its place, and the verdict of tests made in order.
+#![tactic(auto)]
+
 ghost use Rattle.std.specs.Prelude.{◌≡◌};
 ghost use Rattle.refusals.specs.Numbers.{unplaced};
 ghost use Rattle.refusals.specs.Tests.{tested};
@@ -80,7 +82,7 @@ pub const SAP_TAGS: u32 = 53;
 pub const SAP_BLOCK: u32 = 54;
 
 // A refusal: the paper's number, and the place in the file, 0 where the paper gives none.
-#[derive(Drop)]
+#[derive(Clone, Copy)]
 pub struct Refusal {
     pub number: u32,
     pub place: usize,
@@ -96,7 +98,7 @@ impl Refusal {
 }
 
 // The verdict of tests made in order: none has applied, or the number of the first that did.
-#[derive(Drop)]
+#[derive(Clone, Copy)]
 pub enum Verdict {
     Passed,
     Failed(u32),

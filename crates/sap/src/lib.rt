@@ -1,5 +1,7 @@
 // Atari SAP files, types B, C, D and S, read: tested, and what an accepted file says of itself, of each song
 // and of each block. Every call answers for every file and number; none has a requires.
+#![tactic(auto)]
+
 ghost use Rattle.std.specs.Prelude.{◌≡◌};
 ghost use Rattle.saptext.specs.Reading.{state_of};
 ghost use Rattle.sap.specs.FirstLine.{first_line};
@@ -10,14 +12,14 @@ use sapblocks::{Walked, Wanted};
 use sapheader::Header;
 
 // The answer to a file.
-#[derive(Drop)]
+#[derive(Clone, Copy)]
 pub enum Reading {
     Accepted(Header),
     Refused(Refusal),
 }
 
 // What TIME states for a song: nothing, or 2 × milliseconds, plus 1 where LOOP follows.
-#[derive(Drop)]
+#[derive(Clone, Copy)]
 pub enum Moment {
     Unstated,
     Lasts(u32),
@@ -25,7 +27,7 @@ pub enum Moment {
 
 // The answer of a file's tests: its header, the time of the song and the block asked for, or the first
 // refusal that applies.
-#[derive(Drop)]
+#[derive(Clone, Copy)]
 pub enum Tested {
     Passed(Header, Moment, Wanted),
     Refused(Refusal),

@@ -1,9 +1,11 @@
 // The arguments of a SAP header's tags, each at a place of lent bytes. Each is found in one pass.
+#![tactic(auto)]
+
 ghost use Rattle.std.specs.Prelude.{◌≡◌, ◌+◌, ◌<◌, ◌^◌, drop};
 ghost use Rattle.saparguments.specs.Arguments.{decimal_at, address_at, covox_at, letter_at, text_at};
 
 // What stands at a place as an argument: nothing that fits, or its length in bytes and its value.
-#[derive(Drop)]
+#[derive(Clone, Copy)]
 pub enum Argument {
     Bad,
     Good(usize, u32),

@@ -1,5 +1,7 @@
 // The calls of SAP files for C and Rust that go by a number: the time of a song, a block, with answers as
 // docs/INTERFACE.md fixes them. Each answers for every file and every number; none has a requires.
+#![tactic(auto)]
+
 ghost use Rattle.std.specs.Prelude.{◌≡◌, length};
 ghost use Rattle.sapblocks.specs.declared.Wanted.TheVariants.{At};
 ghost use Rattle.sapparts.specs.Asked.{time_outcome, block_outcome};

@@ -1,11 +1,13 @@
 // The blocks of a SAP file: where each lies in the file and in memory. Of a block's bytes only the four of
 // its addresses are looked at. Every call answers for every file and number; none has a requires.
+#![tactic(auto)]
+
 ghost use Rattle.std.specs.Prelude.{◌≡◌, drop};
 ghost use Rattle.sapblocks.specs.Blocks.{marker, blocks_in};
 ghost use Rattle.sapblocks.specs.Answers.{found_at, walked_in};
 
 // A block: its first and its last cell in memory, and where its first data byte stands in the file.
-#[derive(Drop)]
+#[derive(Clone, Copy)]
 pub struct Block {
     pub start: u16,
     pub end: u16,
@@ -13,7 +15,7 @@ pub struct Block {
 }
 
 // What stands at an offset of a file: FF FF, or a block, each with the offset after it; or neither.
-#[derive(Drop)]
+#[derive(Clone, Copy)]
 pub enum Found {
     Bad,
     Marker(usize),
@@ -21,14 +23,14 @@ pub enum Found {
 }
 
 // The block of a number, or that there is no such block.
-#[derive(Drop)]
+#[derive(Clone, Copy)]
 pub enum Wanted {
     Missing,
     At(Block),
 }
 
 // The answer to a file's blocks: that one is bad or missing, or how many there are and the one asked for.
-#[derive(Drop)]
+#[derive(Clone, Copy)]
 pub enum Walked {
     Spoilt,
     Counted(usize, Wanted),

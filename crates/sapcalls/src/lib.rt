@@ -1,5 +1,7 @@
 // The calls of SAP files for C and Rust, with answers as docs/INTERFACE.md fixes them: reading, the header's
 // fields, loading. Each answers for every file and every number; none has a requires.
+#![tactic(auto)]
+
 ghost use Rattle.std.specs.Prelude.{◌≡◌, length};
 ghost use Rattle.sap.specs.Answers.{sap_outcome};
 ghost use Rattle.sapload.specs.Loading.{sap_load_outcome, sap_memory_after};

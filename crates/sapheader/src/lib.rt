@@ -1,4 +1,6 @@
 // What a SAP file says of itself, made of what its tags state.
+#![tactic(auto)]
+
 ghost use Rattle.std.specs.Prelude.{◌≡◌, ◌≤◌, get_or};
 ghost use Rattle.saptags.specs.declared.Tag.{Tag};
 ghost use Rattle.saptags.specs.Tags.{index_of};
@@ -11,55 +13,55 @@ use fields::Span;
 use saptext::Lines;
 
 // Where a text lies in the file, without its quotes; or that the file has none.
-#[derive(Drop)]
+#[derive(Clone, Copy)]
 pub enum TextPlace {
     Absent,
     At(Span),
 }
 
 // FASTPLAY as the file states it; or that it does not.
-#[derive(Drop)]
+#[derive(Clone, Copy)]
 pub enum Rate {
     Unstated,
     Stated(u16),
 }
 
 // The player routine of a type D file, which may have none.
-#[derive(Drop)]
+#[derive(Clone, Copy)]
 pub enum Routine {
     Missing,
     At(u16),
 }
 
 // Type B: the addresses of its init and its player routine.
-#[derive(Drop)]
+#[derive(Clone, Copy)]
 pub struct Called {
     pub init: u16,
     pub player: u16,
 }
 
 // Type C: the addresses of its music and its player routine.
-#[derive(Drop)]
+#[derive(Clone, Copy)]
 pub struct Composed {
     pub music: u16,
     pub player: u16,
 }
 
 // Type D: the address of its init routine, and its player routine.
-#[derive(Drop)]
+#[derive(Clone, Copy)]
 pub struct Digital {
     pub init: u16,
     pub player: Routine,
 }
 
 // Type S: the address of its init routine.
-#[derive(Drop)]
+#[derive(Clone, Copy)]
 pub struct Synthetic {
     pub init: u16,
 }
 
 // The kinds of player, each with the addresses that it needs.
-#[derive(Drop)]
+#[derive(Clone, Copy)]
 pub enum Player {
     B(Called),
     C(Composed),
@@ -69,7 +71,7 @@ pub enum Player {
 
 // What an accepted file says of itself. default is the song to begin with, counted from 0; stated is FASTPLAY
 // as the file states it, and fastplay as it holds; first is where the first FF FF stands.
-#[derive(Drop)]
+#[derive(Clone, Copy)]
 pub struct Header {
     pub player: Player,
     pub songs: u32,

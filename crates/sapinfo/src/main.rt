@@ -1,5 +1,7 @@
 // Shows what a SAP file on standard input says of itself, or the refusal's number and place. A file of more
 // bytes than the program holds is not looked at, and the one line that it then prints says so.
+#![tactic(auto)]
+
 use libc::STDIN_FILENO;
 use printing::{write, write_after, write_refusal};
 use refusals::Refusal;

@@ -1,4 +1,6 @@
 // A line of a SAP header at a place of lent bytes: its tag and its argument. Each is found in one pass.
+#![tactic(auto)]
+
 ghost use Rattle.std.specs.Prelude.{◌≡◌, ◌<◌, ◌^◌, length, drop};
 ghost use Rattle.saplines.specs.Lines.{value_at, argument_after, line_at};
 
@@ -7,7 +9,7 @@ use saptags::{Named, Tag};
 
 // What stands at a place as a line: nothing that fits, or its tag, how many bytes it has, and its argument's
 // value.
-#[derive(Drop)]
+#[derive(Clone, Copy)]
 pub enum Line {
     Bad,
     Good(Tag, usize, u32),

@@ -1,4 +1,6 @@
 // A SAP file loaded into memory. The call answers for every file and memory; it has no requires.
+#![tactic(auto)]
+
 ghost use Rattle.std.specs.Prelude.{◌≡◌, length};
 ghost use Rattle.sap.specs.Answers.{outcome_of_sap};
 ghost use Rattle.sapload.specs.Loading.{sap_load_outcome, sap_memory_after};

@@ -1,5 +1,7 @@
 // What a caller asks of a SAP file: the time of a song, a block by its number, and its texts as parts of the
 // lent bytes. Every call answers for every file and number; none has a requires.
+#![tactic(auto)]
+
 ghost use Rattle.std.specs.Prelude.{◌≡◌};
 ghost use Rattle.refusals.specs.Numbers.Outcome.{accepted};
 ghost use Rattle.sapparts.specs.Asked.{time_outcome, outcome_of_time, block_outcome, outcome_of_block, lasting};
@@ -11,14 +13,14 @@ use sapblocks::{Block, Wanted};
 use sapheader::{Header, TextPlace};
 
 // How long a song lasts, and whether it then loops.
-#[derive(Drop)]
+#[derive(Clone, Copy)]
 pub struct Duration {
     pub milliseconds: u32,
     pub looped: bool,
 }
 
 // The answer to a song's number: its time, or that the file does not state it.
-#[derive(Drop)]
+#[derive(Clone, Copy)]
 pub enum SongTime {
     Unstated,
     Lasts(Duration),
@@ -26,7 +28,7 @@ pub enum SongTime {
 }
 
 // The answer to a block's number.
-#[derive(Drop)]
+#[derive(Clone, Copy)]
 pub enum BlockAnswer {
     NoSuchBlock,
     Found(Block),
@@ -34,7 +36,7 @@ pub enum BlockAnswer {
 }
 
 // The texts of a file, by name.
-#[derive(Drop)]
+#[derive(Clone, Copy)]
 pub enum Piece {
     Author,
     Name,

@@ -1,4 +1,6 @@
 // The blocks of a SAP file put into memory, one after the other.
+#![tactic(auto)]
+
 ghost use Rattle.std.specs.Prelude.{◌≡◌, true, length};
 ghost use Rattle.sapblocks.specs.Blocks.{blocks_in, are_whole, listed};
 ghost use Rattle.sapput.specs.Putting.{blocks_put};

@@ -1,4 +1,6 @@
 // The tests of a SAP file's tags against its type and its number of songs (53).
+#![tactic(auto)]
+
 ghost use Rattle.std.specs.Prelude.{◌≡◌};
 ghost use Rattle.saptext.specs.Reading.{state_of};
 ghost use Rattle.saprules.specs.Against.{value_or, states_of, type_against, against};

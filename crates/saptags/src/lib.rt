@@ -1,4 +1,6 @@
 // The tags of a SAP header: which one stands at a place, its number, and how long its name is.
+#![tactic(auto)]
+
 ghost use Rattle.std.specs.Prelude.{◌≡◌, ◌<◌, ◌^◌, length, drop};
 ghost use Rattle.saptags.specs.Tags.{name_of, index_of, tag_at, named_by};
 
@@ -32,7 +34,7 @@ pub const COVOX: usize = 12;
 pub const TIME: usize = 13;
 
 // A tag, in source 002's order.
-#[derive(Drop)]
+#[derive(Clone, Copy)]
 pub enum Tag {
     Author,
     Name,
@@ -51,7 +53,7 @@ pub enum Tag {
 }
 
 // The tag whose name stands at a place, if there is one.
-#[derive(Drop)]
+#[derive(Clone, Copy)]
 pub enum Named {
     Unknown,
     Known(Tag),

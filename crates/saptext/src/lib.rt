@@ -1,4 +1,6 @@
 // The lines of a SAP header, read in one pass: what each tag states, in a cell of its own.
+#![tactic(auto)]
+
 ghost use Rattle.std.specs.Prelude.{◌≡◌, true, false, ◌<◌, length};
 ghost use Rattle.saptext.specs.Text.{text_in};
 ghost use Rattle.saptext.specs.Reading.{entry_at, text_read, lines_of};
@@ -7,7 +9,7 @@ use saplines::Line;
 
 // What stands at a place as a line with the CR LF that closes it: nothing that fits, or its tag's number,
 // where a text that it has stands, its argument's value and where the next line begins.
-#[derive(Drop)]
+#[derive(Clone, Copy)]
 pub enum Entry {
     Bad,
     Good(usize, usize, u32, usize),
@@ -16,7 +18,7 @@ pub enum Entry {
 // What the lines state. Where they are good (ended), FF FF stands at end; of each tag by its number, places
 // has where a text that it has stands, 0 where the tag is absent, and values its argument's value. Of TIME
 // these are of the song asked for, and times is how many TIMEs there are.
-#[derive(Drop)]
+#[derive(Clone, Copy)]
 pub struct Lines {
     pub ended: bool,
     pub end: usize,

@@ -1,4 +1,6 @@
 // A song's duration at a place of lent bytes: the argument of TIME. Each is found in one pass.
+#![tactic(auto)]
+
 ghost use Rattle.std.specs.Prelude.{◌≡◌, ◌+◌, ◌<◌, ◌^◌, drop};
 ghost use Rattle.saptimes.specs.Times.{thousandths, fraction_at, looped_at, clock_at, time_at};
 

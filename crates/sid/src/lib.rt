@@ -1,5 +1,7 @@
 // PSID and RSID files, versions 1 and 2, read: tested, and what an accepted file says of itself, also of each
 // song. Every call answers for every file and number; none has a requires.
+#![tactic(auto)]
+
 ghost use Rattle.std.specs.Prelude.{◌≡◌};
 ghost use Rattle.sid.specs.Answers.{outcome_of_tune, sid_outcome, outcome_of_tested, tested_outcome};
 ghost use Rattle.sid.specs.Speed.{outcome_of_speed, song_speed};
@@ -15,7 +17,7 @@ pub mod speed;
 const SHORTEST: usize = 118;
 
 // What the file's first four bytes say it is.
-#[derive(Drop)]
+#[derive(Clone, Copy)]
 pub enum Kind {
     Psid,
     Rsid,
@@ -24,7 +26,7 @@ pub enum Kind {
 // What an accepted file says of itself. load and init are the effective addresses; start is the start song, 1
 // where the file has 0; basic is flag bit 1 (BASIC in an RSID, PlaySID-specific in a PSID), clock bits 2-3,
 // model bits 4-5; page and pages are start page and page length.
-#[derive(Drop)]
+#[derive(Clone, Copy)]
 pub struct Header {
     pub kind: Kind,
     pub version: u16,
@@ -46,21 +48,21 @@ pub struct Header {
 }
 
 // The answer to a file.
-#[derive(Drop)]
+#[derive(Clone, Copy)]
 pub enum Reading {
     Accepted(Header),
     Refused(Refusal),
 }
 
 // The answer of a file's tests: what its header is made of, or the first refusal that applies.
-#[derive(Drop)]
+#[derive(Clone, Copy)]
 pub enum Tested {
     Passed(Fields, sidheader::Payload),
     Refused(Refusal),
 }
 
 // The answer to a song's number: its bit of the speed field.
-#[derive(Drop)]
+#[derive(Clone, Copy)]
 pub enum SongSpeed {
     Bit(u32),
     Refused(Refusal),

@@ -1,5 +1,7 @@
 // The calls of PSID and RSID files for C and Rust, with answers as docs/INTERFACE.md fixes them.
 // Each answers for every file and every number; none has a requires.
+#![tactic(auto)]
+
 ghost use Rattle.std.specs.Prelude.{◌≡◌, length};
 ghost use Rattle.sid.specs.Answers.{sid_outcome};
 ghost use Rattle.sidload.specs.Loading.{load_outcome, memory_after};

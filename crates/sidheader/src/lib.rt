@@ -1,5 +1,7 @@
 // The fields of a PSID or RSID header as they stand in the file, where the payload lies, and the effective
 // init. Nothing is tested here.
+#![tactic(auto)]
+
 ghost use Rattle.std.specs.Prelude.{◌≡◌, ◌-◌};
 ghost use Rattle.sidheader.specs.Fields.{added, fields_of};
 ghost use Rattle.sidheader.specs.Payload.{payload_of, init_of};
@@ -10,7 +12,7 @@ pub const PSID: u32 = 0x50534944;
 pub const RSID: u32 = 0x52534944;
 
 // The numbers of a header, each at its offset in source 003; size is the file's length.
-#[derive(Drop)]
+#[derive(Clone, Copy)]
 pub struct Fields {
     pub size: usize,
     pub magic: u32,
@@ -29,7 +31,7 @@ pub struct Fields {
 }
 
 // The payload: its address in memory, and its bytes in the file.
-#[derive(Drop)]
+#[derive(Clone, Copy)]
 pub struct Payload {
     pub load: u16,
     pub from: usize,

@@ -1,5 +1,7 @@
 // Writes the 65,536 bytes of a memory of zeros after a PSID or RSID file on standard input is loaded into it,
 // or the refusal's number and place.
+#![tactic(auto)]
+
 use libc::STDIN_FILENO;
 use printing::{write, write_refusal};
 use refusals::Refusal;

@@ -1,4 +1,6 @@
 // Shows what a PSID or RSID file on standard input says of itself, or the refusal's number and place.
+#![tactic(auto)]
+
 use libc::STDIN_FILENO;
 use printing::{write, write_after, write_refusal};
 use refusals::Refusal;

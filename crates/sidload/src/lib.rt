@@ -1,4 +1,6 @@
 // A PSID or RSID file loaded into memory. The call answers for every file and memory; it has no requires.
+#![tactic(auto)]
+
 ghost use Rattle.std.specs.Prelude.{◌≡◌, length};
 ghost use Rattle.sid.specs.Answers.{outcome_of_tune, outcome_of_tested};
 ghost use Rattle.sidload.specs.Loading.{load_outcome, put_outcome, memory_after};

@@ -1,4 +1,6 @@
 // Refusals 1 to 13: the tests of a PSID or RSID file, in the paper's order.
+#![tactic(auto)]
+
 ghost use Rattle.std.specs.Prelude.{◌≡◌, ◌+◌, ◌-◌, ◌/◌, ◌^◌, ◌<◌};
 ghost use Rattle.refusals.specs.Tests.{first_of};
 ghost use Rattle.sidrefusals.specs.HeaderTests.{header_tests};

@@ -1,4 +1,6 @@
 // The speed of a song of a PSID or RSID file. The call answers for every file and number; it has no requires.
+#![tactic(auto)]
+
 ghost use Rattle.std.specs.Prelude.{◌≡◌};
 ghost use Rattle.sid.specs.Speed.{outcome_of_speed};
 ghost use Rattle.sidspeed.specs.Speed.{speed_outcome};

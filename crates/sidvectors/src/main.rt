@@ -1,5 +1,7 @@
 // Runs the hand-made files of data/ through read, load, speed_of_song and song_speed, and shows every answer.
 // tools/sidvectors makes the files and says what each must give.
+#![tactic(auto)]
+
 use fields::Span;
 use files::Loaded;
 use printing::{write, write_after, write_refusal};
@@ -11,7 +13,7 @@ use tune::Piece;
 const EMPTY: u8 = 0xA5;
 
 // The cells that a load has changed: the first, how many, and the sum of what they hold.
-#[derive(Drop)]
+#[derive(Clone, Copy)]
 struct Cells {
     first: usize,
     count: usize,

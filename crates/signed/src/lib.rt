@@ -1,11 +1,13 @@
 // Where unsigned numbers become signed ones and signed ones come apart again. Internal.
 // All other code of the pairs stays with unsigned numbers.
+#![tactic(auto)]
+
 ghost use Rattle.std.specs.Prelude.{◌≡◌};
 ghost use Rattle.std.proofs.Math.IntN.{sub_ℕ};
 ghost use Rattle.signed.specs.Signs.{parts_of};
 
 // A number's sign and its size.
-#[derive(Drop)]
+#[derive(Clone, Copy)]
 pub struct Parts {
     pub negative: bool,
     pub size: u32,

@@ -1,5 +1,7 @@
 // A command's two bytes by the kind of its value, in the writer's spelling. Internal.
 // Each answers 43 where no pair has the value.
+#![tactic(auto)]
+
 ghost use Rattle.std.specs.Prelude.{◌≡◌, ◌+◌, ◌*◌, ◌/◌, ◌<◌};
 ghost use Rattle.meaning.specs.Answers.{outcome_of_bytes};
 ghost use Rattle.spelling.specs.Counts.{no_bytes, bumped, switched, only_yes, counted, phrase, destination, alone, joined, tempo};

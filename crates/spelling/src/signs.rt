@@ -8,7 +8,7 @@ use meaning::Spelling;
 use signed::Parts;
 
 // The number that stands for a signed value in a field, or that none does.
-#[derive(Drop)]
+#[derive(Clone, Copy)]
 pub enum Slot {
     In(u16),
     Out,

@@ -1,4 +1,6 @@
 // The tests 27 to 31 of a voice: two passes over its stored pairs, nothing played.
+#![tactic(auto)]
+
 ghost use Rattle.std.specs.Prelude.{◌≡◌, ◌≤◌, length};
 ghost use Rattle.bodies.specs.Voice.{pairs};
 ghost use Rattle.structure.specs.Findings.{pairs_finding, structure_finding};
@@ -11,7 +13,7 @@ mod single;
 
 // What tests made pair by pair find: none has applied, or the first that did, by its number and its pair's
 // number.
-#[derive(Drop)]
+#[derive(Clone, Copy)]
 pub enum Finding {
     Clear,
     At(u32, usize),

@@ -8,7 +8,7 @@ use kind::Kind;
 
 // The HEDs that are open in the open DEF and outside it, and that DEF's number. With no DEF open, phrase is
 // NONE and inside counts every HED that is open.
-#[derive(Drop)]
+#[derive(Clone, Copy)]
 pub struct Open {
     pub inside: usize,
     pub outside: usize,
@@ -18,7 +18,7 @@ pub struct Open {
 pub const NONE: usize = 24;
 
 // What a pair leaves: what is open after it, with the number that an END closes; or a refusal's number.
-#[derive(Drop)]
+#[derive(Clone, Copy)]
 pub enum Step {
     On(Open),
     Closes(Open, usize),

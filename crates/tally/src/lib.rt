@@ -2,12 +2,14 @@
 // no sum outgrows its number; the laws of crates/counts show that the stop never shows in an answer. A plain
 // event is the most frequent pair, and a voice has too few of them to outgrow anything: they are added
 // without the stop, which comes where counts are joined and where a body ends.
+#![tactic(auto)]
+
 ghost use Rattle.std.specs.Prelude.{◌≡◌, ◌<◌, ◌≤◌, max};
 ghost use Rattle.tally.specs.Sums.{cap, join, no_counts, more, passes, standing, again};
 ghost use Rattle.tally.specs.Small.{Small, Running, packed_counts, unpacked_counts};
 
 // The events and pairs walked of a body, and its depth.
-#[derive(Drop)]
+#[derive(Clone, Copy)]
 pub struct Counts {
     pub events: u32,
     pub walked: u32,

@@ -1,6 +1,8 @@
 // Internal: the length of a body as a map of the values that it starts with, so that no body is read twice. A
 // body lasts a fixed number of 384ths and fixed multiples of the tempo, UTL and UTV before it; it leaves each
 // of the three as it was or at a fixed value.
+#![tactic(auto)]
+
 ghost use Rattle.std.specs.Prelude.{◌≡◌, ◌+◌, ◌*◌, ◌<◌, ◌≤◌};
 ghost use Rattle.timemap.specs.Maps as maps;
 ghost use Rattle.timemap.specs.Maps.{fixed_part, open_part};
@@ -10,7 +12,7 @@ use clock::Values;
 
 // The length of a body, fixed 384ths and multiples of the values before it, and where it leaves each value: 0
 // as it was, else at one less than this number.
-#[derive(Drop)]
+#[derive(Clone, Copy)]
 pub struct TimeMap {
     pub fixed: u64,
     pub tempos: u64,

@@ -2,6 +2,8 @@
 // in it. The struct holds a reference, so the functions over it are few and thin: each takes it apart and
 // leaves the work to `fields::span_part`.
 // `shown` has plain parameters: whoever calls it meets no such struct.
+#![tactic(auto)]
+
 ghost use Rattle.std.specs.Prelude.{◌≡◌};
 ghost use Rattle.fields.specs.Parts.{part_of};
 ghost use Rattle.tune.specs.Tune.{span_of, tune_of};
@@ -10,7 +12,7 @@ use fields::Span;
 use sid::Header;
 
 // The parts of a file that are shown, by name.
-#[derive(Drop)]
+#[derive(Clone, Copy)]
 pub enum Piece {
     Title,
     Author,
@@ -20,7 +22,7 @@ pub enum Piece {
 
 // The file as it was lent, and where its parts lie. It may be made by hand: a part then has those bytes of
 // its place that lie in the file.
-#[derive(Drop)]
+#[derive(Clone, Copy)]
 pub struct Tune<'a> {
     pub file: &'a [u8],
     pub title: Span,

@@ -1,5 +1,7 @@
 // The library for C and Rust: twenty functions on numbers and lists, as docs/INTERFACE.md fixes them.
 // Each answers for every file and every number; none has a requires.
+#![tactic(auto)]
+
 ghost use Rattle.std.specs.Prelude.{◌≡◌, length};
 ghost use Rattle.fields.specs.Parts.{front};
 ghost use Rattle.sid.specs.Answers.{sid_outcome};

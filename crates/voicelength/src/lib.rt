@@ -1,5 +1,7 @@
 // How long a voice of a MUS file lasts: the exact time of its HLT in 384ths of a jiffy, found without playing
 // repeats or calls out. The call answers for every file and every number; it has no requires.
+#![tactic(auto)]
+
 ghost use Rattle.std.specs.Prelude.{◌≡◌};
 ghost use Rattle.events.specs.Listing.{played_in};
 ghost use Rattle.mus.specs.Bounds.{InSong};
@@ -11,7 +13,7 @@ use refusals::Refusal;
 mod reading;
 
 // The answer to a voice: the exact time of its HLT in 384ths of a jiffy, or why there is none.
-#[derive(Drop)]
+#[derive(Clone, Copy)]
 pub enum LengthAnswer {
     Ends(u64),
     Refused(Refusal),

@@ -11,7 +11,7 @@ use kind::Kind;
 use timemap::TimeMap;
 
 // A pair as the reading meets it: an event; HED or DEF with its number; CAL with its number; TAL; END.
-#[derive(Drop)]
+#[derive(Clone, Copy)]
 enum Step {
     Event,
     Opens(usize),
@@ -21,7 +21,7 @@ enum Step {
 }
 
 // A body that waits for the one inside it: its map up to the HED or DEF there, and that one's number.
-#[derive(Drop)]
+#[derive(Clone, Copy)]
 struct Open {
     before: TimeMap,
     number: usize,

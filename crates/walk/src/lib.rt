@@ -1,4 +1,6 @@
 // The walk over an accepted voice that lists its events: no event is played for its sound, none is kept.
+#![tactic(auto)]
+
 ghost use Rattle.std.specs.Prelude.{◌≡◌};
 ghost use Rattle.bodies.specs.Voice.{pairs};
 ghost use Rattle.bodies.specs.Playing.{played};

@@ -6,14 +6,14 @@ ghost use Rattle.walk.specs.Turns.{Timed, turn_of};
 use clock::Values;
 
 // The exact time of the next event in 384ths of a jiffy, and what TEM, UTL and UTV have set.
-#[derive(Drop)]
+#[derive(Clone, Copy)]
 pub struct Clock {
     pub time: u64,
     pub values: Values,
 }
 
 // An event's file offset and jiffy, and the clock after it.
-#[derive(Drop)]
+#[derive(Clone, Copy)]
 pub struct Turn {
     pub offset: u32,
     pub jiffy: u32,
