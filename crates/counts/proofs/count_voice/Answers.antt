@@ -1,5 +1,4 @@
 -- `counts::count_voice` meets its contract.
-use borrow.Author.Rules.{rules}
 use mathlib.Core.Path.{subst}
 use native.Mathlib.Omega.{arith}
 use Rattle.counts.specs.Measures.{Measures, MeasureHolds}
