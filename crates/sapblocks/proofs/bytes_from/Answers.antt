@@ -3,15 +3,10 @@ use mathlib.Core.Path.{◌∙◌}
 use native.Mathlib.Omega.{arith}
 use lib.ListN.{length, drop, length-drop}
 use lib.Seq.{take_all}
-use borrow.Author.Rules.{rules}
-use Rattle.sapblocks.proofs.bytes_from.Statement.{statement}
-use Rattle.sapblocks.proofs.bytes_from.Tie as tie
+use Rattle.sapblocks.proofs.bytes_from.Goals as goal
 
-returns : tie.Need-returns
+pub returns : goal.returns
 returns c =
-    let a = c.before.before.args in
+    let a = c.args in
     let f = a.file.now in
     c.part.ensures ∙ take_all (length f) (drop a.at f) (simp length-drop (omega arith))
-
-pub bytes-from-spec : {M : Type 1} → statement M
-bytes-from-spec = tie.close (tie.spec (λ c κs. search rules) returns)
