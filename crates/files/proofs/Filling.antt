@@ -14,7 +14,8 @@ use Rattle.files.specs.Reading.{Filled}
 pub fill_none : (out : List ℕ) → Filled 0 out out
 fill_none out = record { within = omega arith; cells = refl; others = refl }
 
-module _ (out new p : List ℕ) (done n : ℕ) (room : done + n ≤ length out) (all : length p ≡ n) (e : new ≡ put out done p) where
+module _ (out new p : List ℕ) (done n : ℕ) (room : done + n ≤ length out) (all : length p ≡ n)
+    (e : new ≡ put out done p) where
   seam : length (take done out ++ p) ≡ done + n
   seam = length-append (take done out) p ∙ omega (arith, length-take done out, all, room)
 
@@ -27,19 +28,22 @@ module _ (out new p : List ℕ) (done n : ℕ) (room : done + n ≤ length out) 
       record {
         within = omega (arith, cells, room);
         cells = cells ∙ filled.cells;
-        others = after ∙ rw all (sym (drop-drop n done out) ∙ ap (drop n) filled.others ∙ drop-drop n done before);
+        others =
+            after ∙ rw all (sym (drop-drop n done out) ∙ ap (drop n) filled.others ∙ drop-drop n done before);
       }
 
   front : take (done + n) new ≡ take done out ++ p
   unfolding put
   front = rw (e, ← seam) (take-append_seam (take done out ++ p) (drop (done + length p) out))
 
-  pub took_next : (a b c : Option (List ℕ)) → Consumes a b (take done out) → Consumes b c p → Consumes a c (take (done + n) new)
+  pub took_next : (a b c : Option (List ℕ)) → Consumes a b (take done out) → Consumes b c p
+      → Consumes a c (take (done + n) new)
   took_next None b c before next = tt
   took_next (Some xs) None c before next = absurd before
   took_next (Some xs) (Some ys) None before next = absurd next
   took_next (Some xs) (Some ys) (Some zs) before next =
-      rw front (before ∙ ap (λ (l : List ℕ). take done out ++ l) next ∙ sym (append_assoc (take done out) p zs))
+      let first = take done out in
+      rw front (before ∙ ap (λ (l : List ℕ). first ++ l) next ∙ sym (append_assoc first p zs))
 
 pub took_none : (a : Option (List ℕ)) → Consumes a a []
 took_none None = tt

@@ -43,7 +43,8 @@ fn number(error: Error) -> i32 {
 // times as long.
 pub fn read_full<R: Read>(from: &mut R, out: &mut [u8]) -> io::Result<usize>
     ensures filled { IfOk result (λ n. Filled n out.old out.new) }
-    ensures bytes { IfOk result (λ n. Consumes (R.remaining from.old) (R.remaining from.new) (take n out.new)) }
+    ensures bytes { IfOk result (λ n.
+        Consumes (R.remaining from.old) (R.remaining from.new) (take n out.new)) }
     ensures end { IfOk result (λ n. n < length out.new → IsAtEnd (R.remaining from.new)) }
 {
     let mut done = 0;

@@ -1,4 +1,4 @@
--- What was read lies in the first cells, and the reader has lost just that; the measure is the room that is left.
+-- What was read lies in the first cells, and the reader has lost just that. The measure is the room left.
 use Rattle.std.proofs.Common.{length, ◌-◌, take}
 use Rattle.std.specs.Io.KnownBytes.{Consumes}
 use Rattle.files.specs.Reading.{Filled}
