@@ -1,21 +1,17 @@
-// A file by its name, whole or its first bytes, for programs; and what standard input gives.
+// What programs read: a file by its name, whole or its first bytes, standard input, and the arguments.
 #![tactic(auto)]
 
 ghost use Rattle.std.specs.Prelude.{◌<◌, IfOk, length, take};
 ghost use Rattle.std.specs.Io.KnownBytes.{Consumes, IsAtEnd};
 ghost use Rattle.files.specs.Reading.{Filled, ReadInto};
 
-use std::io::{Error, Read};
+mod arguments;
+pub mod errors;
+
+pub use arguments::{arg, arg_count};
+use std::io::{Error, Read, Write};
 use std::rt::Files;
 use std::{fs, io, str};
-
-// The machine's numbers for a name that never reaches it: it has a zero byte, it is longer than any path, or
-// it is not UTF-8, as std's names are.
-const EINVAL: i32 = 22;
-
-const ENAMETOOLONG: i32 = 36;
-
-const EILSEQ: i32 = 84;
 
 // More bytes than the longest path has.
 const PATH_MAX: usize = 4096;
@@ -29,11 +25,11 @@ pub enum Loaded {
     NotRead(i32),
 }
 
-// The machine's number of an error. Only a name with a zero byte in it is std's own error, which has none.
+// The machine's number of an error. Only std's own, that a name has a zero byte in it, has none.
 fn number(error: Error) -> i32 {
     match error.raw_os_error() {
         Some(n) => n,
-        None => EINVAL,
+        None => errors::EINVAL,
     }
 }
 
@@ -77,13 +73,24 @@ pub fn read_file(rt: &impl Files, path: &[u8], out: &mut [u8]) -> Loaded
     ensures { ReadInto result out.old out.new }
 {
     if PATH_MAX <= path.len() {
-        return Loaded::NotOpened(ENAMETOOLONG);
+        return Loaded::NotOpened(errors::ENAMETOOLONG);
     }
     let Ok(name) = str::from_utf8(path) else {
-        return Loaded::NotOpened(EILSEQ);
+        return Loaded::NotOpened(errors::EILSEQ);
     };
     match fs::open(rt, name) {
         Ok(mut file) => read_open(&mut file, out),
         Err(error) => Loaded::NotOpened(number(error)),
+    }
+}
+
+// internal: a line on standard error of what failed, a colon, and the machine's words for the error number.
+pub fn fail(rt: &HostRuntime, what: &[u8], error: i32) -> io::Result<()> {
+    let words = Error::from_raw_os_error(error).to_string(rt.alloc())?;
+    let mut err = rt.stderr();
+    err.write_all(what)?;
+    match words.as_str().split_once(" (os error ") {
+        Some((text, _)) => writeln!(err, ": {text}"),
+        None => writeln!(err, ": {words}"),
     }
 }
