@@ -8,7 +8,7 @@ use Rattle.std.proofs.Math.Seq.{drop-drop, drop-append_seam, take-append_seam}
 use Rattle.std.specs.declared.option.Option.{Option}
 use Rattle.std.specs.Io.KnownBytes.{Consumes}
 use Rattle.fields.specs.Parts.{put}
-use Rattle.fields.specs.Laws.{length-put}
+use Rattle.fields.proofs.Memory.{length-put}
 use Rattle.files.specs.Reading.{Filled}
 
 pub fill_none : (out : List ℕ) → Filled 0 out out

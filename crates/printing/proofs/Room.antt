@@ -15,7 +15,7 @@ use Rattle.std.proofs.lemmas.List.{set_split, take-set-le}
 use Rattle.std.proofs.lemmas.Bool.{leb-true, leb-false}
 use Rattle.logic.specs.Cases.{cases}
 use Rattle.fields.specs.Parts.{put}
-use Rattle.fields.specs.Laws.{length-put}
+use Rattle.fields.proofs.Memory.{length-put}
 use Rattle.printing.specs.Placing.{fitting, text_placed, after_text}
 
 module _ (out : List ℕ) (at : ℕ) (text : List ℕ) where

@@ -1,12 +1,10 @@
-use Prim.Native.Nat.{ℕ, ◌≤◌, ◌<◌, ◌+◌, ◌*◌, ◌-◌, min}
+use Prim.Native.Nat.{ℕ, ◌≤◌, ◌<◌, ◌+◌, ◌*◌, min}
 use mathlib.Core.Path.{◌≡◌, refl, subst}
 use native.Mathlib.Omega.{arith}
-use lib.ListN.{length}
-use borrow.Author.Rules.{rules}
 use borrow.Author.Tests.{lt-ltb, le-ltb}
 use Rattle.characters.specs.Characters.{is_digit, most}
-use Rattle.characters.proofs.Counting.{Counted, none_past, none_here, counted-closed, counted-more, counted_all}
-use Rattle.characters.proofs.Values.{Read, digits-made, digits_none, read_more, read_all, product-fits}
+use Rattle.characters.proofs.Counting.{none_past, none_here, counted-closed, counted-more, counted_all}
+use Rattle.characters.proofs.Values.{digits-made, digits_none, read_more, read_all, product-fits}
 use Rattle.characters.proofs.digits_at.Goals as goal
 
 pub returns-then-file-at : goal.returns-then-file-at

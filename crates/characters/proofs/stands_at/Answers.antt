@@ -1,9 +1,6 @@
-use Prim.Native.Nat.{◌≤◌, ◌-◌}
 use mathlib.Core.Path.{sym, ◌∙◌}
 use native.Mathlib.Omega.{arith}
-use lib.ListN.{length}
-use borrow.Author.Rules.{rules}
-use Rattle.characters.proofs.Words.{Same, same_none, same_more, other, all}
+use Rattle.characters.proofs.Words.{same_none, same_more, other, all}
 use Rattle.characters.proofs.stands_at.Goals as goal
 
 pub loop-n-init : goal.loop-n-init

@@ -1,10 +1,7 @@
 -- `stands_at` meets its contract. The invariant: the bytes compared so far are the same. Assumes nothing.
 use Prim.Native.Nat.{◌≤◌, ◌-◌}
-use mathlib.Core.Path.{sym, ◌∙◌}
-use native.Mathlib.Omega.{arith}
 use lib.ListN.{length}
-use borrow.Author.Rules.{rules}
-use Rattle.characters.proofs.Words.{Same, same_none, same_more, other, all}
+use Rattle.characters.proofs.Words.{Same}
 use Rattle.characters.proofs.stands_at.Given as goal
 
 abbrev pub invariant-loop-n : goal.invariant-loop-n

@@ -1,12 +1,9 @@
 -- `text_length` meets its contract. The invariant: what is counted and what is still to be counted make the
 -- whole. Assumes nothing.
 use Prim.Native.Nat.{◌-◌}
-use mathlib.Core.Path.{sym, ap}
-use native.Mathlib.Omega.{arith}
 use lib.ListN.{length}
-use borrow.Author.Tests.{not-true, not-false}
 use Rattle.characters.specs.Characters.{is_text_character}
-use Rattle.characters.proofs.Counting.{Counted, none_past, counted-closed, counted-more, counted_all}
+use Rattle.characters.proofs.Counting.{Counted}
 use Rattle.characters.proofs.text_length.Given as goal
 
 abbrev pub invariant-loop-n : goal.invariant-loop-n

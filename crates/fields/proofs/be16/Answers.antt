@@ -1,5 +1,4 @@
 -- `be16` meets its contract: past the end both bytes are 0. Assumes nothing.
-use borrow.Author.Rules.{rules}
 use Rattle.fields.specs.Numbers.{be16}
 use Rattle.fields.proofs.Past.{be16-past}
 use Rattle.fields.proofs.be16.Goals as goal

@@ -1,5 +1,4 @@
 -- `be32` meets its contract: past the end both halves are 0. Assumes nothing.
-use borrow.Author.Rules.{rules}
 use Rattle.fields.specs.Numbers.{be32}
 use Rattle.fields.proofs.Past.{be32-past}
 use Rattle.fields.proofs.be32.Goals as goal

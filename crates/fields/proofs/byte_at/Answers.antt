@@ -1,7 +1,6 @@
 -- `byte_at` meets its contract: past the end `get_or` gives its default. Assumes nothing.
 use mathlib.Core.Path.{sym}
 use lib.ListN.{get_or-eq_default}
-use borrow.Author.Rules.{rules}
 use Rattle.fields.proofs.byte_at.Goals as goal
 
 pub returns-else-k-s : goal.returns-else-k-s

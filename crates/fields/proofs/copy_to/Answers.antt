@@ -1,9 +1,8 @@
-use Prim.Native.Nat.{◌≤◌, ◌-◌}
 use mathlib.Core.Path.{◌≡◌, refl}
 use native.Mathlib.Numerals.{add-one}
 use native.Mathlib.Omega.{arith}
 use native.Mathlib.Nat.{le_refl}
-use lib.Seq.{paste, paste-zero, paste-suc, take_all}
+use lib.Seq.{paste-zero, paste-suc, take_all}
 use lib.ListN.{length, length-set}
 use Rattle.fields.specs.Parts.{put}
 use Rattle.fields.proofs.copy_to.Goals as goal

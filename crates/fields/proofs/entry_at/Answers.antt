@@ -1,6 +1,5 @@
 -- `entry_at` meets its contract: the list from the entry's start on, and of that what stands before the mark.
 -- Assumes nothing.
-use borrow.Author.Rules.{rules}
 use Rattle.fields.proofs.Parts.{entry-cut}
 use Rattle.fields.proofs.entry_at.Goals as goal
 

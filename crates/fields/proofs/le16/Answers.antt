@@ -1,6 +1,5 @@
 -- `le16` meets its contract: past the end both bytes are 0. Assumes nothing.
 use native.Mathlib.Omega.{arith}
-use borrow.Author.Rules.{rules}
 use Rattle.fields.specs.Numbers.{le16}
 use Rattle.fields.proofs.Past.{le16-past}
 use Rattle.fields.proofs.le16.Goals as goal

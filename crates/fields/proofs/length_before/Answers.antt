@@ -1,7 +1,5 @@
-use Prim.Native.Nat.{◌≤◌, ◌-◌}
 use native.Mathlib.Omega.{arith}
-use lib.ListN.{length}
-use Rattle.fields.proofs.Cut.{Counted, counted_none, counted_mark, counted-more, counted_all}
+use Rattle.fields.proofs.Cut.{counted_none, counted_mark, counted-more, counted_all}
 use Rattle.fields.proofs.length_before.Goals as goal
 
 pub loop-n-init : goal.loop-n-init

@@ -1,9 +1,8 @@
 -- `length_before` meets its contract. The invariant: what is counted and what is still to be counted make the
 -- length. Assumes nothing.
 use Prim.Native.Nat.{◌≤◌, ◌-◌}
-use native.Mathlib.Omega.{arith}
 use lib.ListN.{length}
-use Rattle.fields.proofs.Cut.{Counted, counted_none, counted_mark, counted-more, counted_all}
+use Rattle.fields.proofs.Cut.{Counted}
 use Rattle.fields.proofs.length_before.Given as goal
 
 abbrev pub invariant-loop-n : goal.invariant-loop-n

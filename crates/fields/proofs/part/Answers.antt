@@ -1,6 +1,5 @@
 -- `part` meets its contract, by the three ways in which a part can lie. Assumes nothing.
 use native.Mathlib.Omega.{arith}
-use borrow.Author.Rules.{rules}
 use Rattle.fields.proofs.Parts.{part-past, part-within, part_over}
 use Rattle.fields.proofs.part.Goals as goal
 

@@ -1,7 +1,5 @@
-use Prim.Native.Nat.{◌≤◌, ◌-◌}
 use native.Mathlib.Omega.{arith}
-use lib.ListN.{length}
-use Rattle.fields.proofs.Marks.{Begins, begins-here, begins_at_end, begins_mark, begins-other}
+use Rattle.fields.proofs.Marks.{begins-here, begins_at_end, begins_mark, begins-other}
 use Rattle.fields.proofs.start_of.Goals as goal
 
 pub loop-i-init : goal.loop-i-init

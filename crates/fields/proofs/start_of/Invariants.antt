@@ -1,9 +1,8 @@
 -- `start_of` meets its contract. The invariant: what is gone through and where the part begins in the rest
 -- make the place. Assumes nothing.
 use Prim.Native.Nat.{◌≤◌, ◌-◌}
-use native.Mathlib.Omega.{arith}
 use lib.ListN.{length}
-use Rattle.fields.proofs.Marks.{Begins, begins-here, begins_at_end, begins_mark, begins-other}
+use Rattle.fields.proofs.Marks.{Begins}
 use Rattle.fields.proofs.start_of.Given as goal
 
 abbrev pub invariant-loop-i : goal.invariant-loop-i
