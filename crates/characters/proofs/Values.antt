@@ -4,7 +4,7 @@
 -- Read, read_more, read_all   the number read so far, one digit more, and all of them
 -- digits-made, digits_none    the answer of two numbers, and of no digits
 -- product-fits   the product with the base fits 32 bits
-use Prim.Native.Nat.{ℕ, ◌+◌, ◌-◌, ◌*◌, ◌<◌, ◌≤◌, min}
+use Prim.Native.Nat.{ℕ, ◌+◌, ◌*◌, ◌<◌, ◌≤◌, min}
 use mathlib.Core.Path.{◌≡◌, subst, ◌∙◌}
 use mathlib.Core.Bool.{true}
 use mathlib.Core.List.{List, [], ◌∷◌}

@@ -1,4 +1,3 @@
 pub mod Lines
 pub mod Starts
-pub mod Memory
 pub mod Outcomes

@@ -2,7 +2,7 @@
 -- take-line     the bytes of a line are the first of their list
 -- length-line   they are no more
 -- line-within   a line ends within any bound of its start and the file
-use Rattle.std.specs.Prelude.{ℕ, ◌+◌, ◌-◌, ◌≤◌, ◌≡◌, refl, List, [], ◌∷◌, length, take, drop}
+use Rattle.std.specs.Prelude.{ℕ, ◌+◌, ◌≤◌, ◌≡◌, refl, List, [], ◌∷◌, length, take, drop}
 use Rattle.std.proofs.Common.{ap, arith, length-drop}
 use Rattle.logic.specs.Cases.{cases}
 use Rattle.container.specs.Text.{ends_line, line_bytes, line_at}

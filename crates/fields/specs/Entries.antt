@@ -44,7 +44,7 @@ module _ (mark : ℕ) where
 
     start : entry_start s mark 0 ≡ 0
     unfolding entry_start
-    start = elim s [
+    start = elim s as (λ l. entry_start l mark 0 ≡ 0) [
       | [] ↦ refl
       | b ∷ bs ↦ refl
     ]

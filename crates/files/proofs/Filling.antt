@@ -8,7 +8,7 @@ use native.Mathlib.Omega.{arith}
 use lib.ListN.{length, take, drop, length-append, length-take}
 use lib.Seq.{drop-drop, drop-append_seam}
 use Rattle.fields.specs.Parts.{put}
-use Rattle.fields.specs.Laws.{length-put}
+use Rattle.fields.proofs.Memory.{length-put}
 use Rattle.files.specs.Reading.{Filled}
 
 pub fill_none : (out : List ℕ) → Filled 0 out out

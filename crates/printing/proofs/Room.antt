@@ -15,7 +15,7 @@ use lib.Seq.{take_all, take_at, drop_at, length-take-le, drop-append-add, drop-d
 use borrow.Author.Tests.{leb-true, leb-false}
 use Rattle.logic.specs.Cases.{cases}
 use Rattle.fields.specs.Parts.{put}
-use Rattle.fields.specs.Laws.{length-put}
+use Rattle.fields.proofs.Memory.{length-put}
 use Rattle.printing.specs.Placing.{fitting, text_placed, after_text}
 
 module _ (out : List ℕ) (at : ℕ) (text : List ℕ) where

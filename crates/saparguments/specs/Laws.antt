@@ -5,7 +5,7 @@
 -- decimal_stop .. text_stop, decimal-within .. text-within   so for each kind
 -- AtMost     the value of an argument is at most a number
 -- decimal-most .. text-most   so for each kind; decimal-least, letter_type   what else is known of two
-use Rattle.std.specs.Prelude.{ℕ, ◌+◌, ◌^◌, ◌-◌, ◌<◌, ◌≤◌, ◌≡◌, refl, Bool, true, false, cond, ◌&&◌, List, [], ◌∷◌, ◌++◌, length, get_or, drop, leb, eqb}
+use Rattle.std.specs.Prelude.{ℕ, ◌+◌, ◌^◌, ◌<◌, ◌≤◌, ◌≡◌, refl, Bool, true, false, cond, ◌&&◌, List, [], ◌∷◌, ◌++◌, length, get_or, drop, leb, eqb}
 use Rattle.std.proofs.Common.{subst, arith, length-drop, leb-true, eqb-true}
 use Rattle.logic.specs.Cases.{cases}
 use Rattle.logic.specs.Truth.{both}

@@ -48,5 +48,5 @@ module _ (places values : List ℕ) (times blocks first : ℕ) where
         first = first;
       } ≡ header_for (states_of places values) times blocks first
   unfolding header_for
-  header_made player letter songs default fastplay stated author name date p l s d r f a n t =
+  header_made player letter songs default fastplay rate author name date p l s d r f a n t =
       rw (f, p, l, s, d, r, a, n, t, stated-place (place 5) (value 5), stated-place (place 6) (value 6), stated-place (place 12) (value 12))

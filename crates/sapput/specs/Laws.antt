@@ -12,7 +12,7 @@ use Rattle.std.proofs.Common.{ap, ◌∙◌, arith, length-drop, length-take-le,
 use Rattle.logic.specs.Cases.{cases}
 use Rattle.logic.specs.Truth.{both, neither}
 use Rattle.fields.specs.Parts.{put}
-use Rattle.fields.specs.Laws.{length-put, put-inside, put-above, put-below}
+use Rattle.fields.proofs.Memory.{length-put, put-inside, put-above, put-below}
 use Rattle.sapblocks.specs.declared.Block.{Block}
 use Rattle.sapblocks.specs.Blocks.{size_of}
 use Rattle.sapblocks.specs.Laws.{GoodBlock, GoodBlocks}

@@ -14,7 +14,6 @@ use Rattle.logic.specs.Every.{every, every_at, true_of}
 use Rattle.characters.specs.Characters.{begins, stands}
 use Rattle.characters.specs.Laws.{Apart, stands_stop, stands-long}
 use Rattle.saptags.specs.declared.Tag.{Tag}
-use Rattle.saptags.specs.declared.Tag.TheVariants as Tag
 use Rattle.saptags.specs.declared.Named.TheVariants.{Known}
 use Rattle.saptags.specs.Tags.{name_of, tags, index_of, tag_in, tag_at}
 

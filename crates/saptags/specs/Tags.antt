@@ -10,7 +10,6 @@ use Rattle.std.specs.Prelude.{ℕ, List, [], ◌∷◌, cond}
 use Rattle.fields.specs.Parts.{byte_text}
 use Rattle.characters.specs.Characters.{stands}
 use Rattle.saptags.specs.declared.Tag.{Tag}
-use Rattle.saptags.specs.declared.Tag.TheVariants as Tag
 use Rattle.saptags.specs.declared.Named.{Named}
 use Rattle.saptags.specs.declared.Named.TheVariants.{Unknown, Known}
 

@@ -3,7 +3,7 @@
 -- pieces_of       either there is one piece, or so
 -- first-cut       where CR LF stands at a place, so, and the first piece ends there or before
 -- marker-first    FF FF stands at the front of the bytes as at the front of their first piece
-use Prim.Native.Nat.{ℕ, zero, suc, ◌+◌, ◌≤◌}
+use Prim.Native.Nat.{ℕ, zero, suc, ◌≤◌}
 use mathlib.Core.Path.{◌≡◌, refl, ap}
 use mathlib.Core.Bool.{true, false, false≢true, ◌&&◌}
 use mathlib.Core.List.{List, [], ◌∷◌, ◌++◌}

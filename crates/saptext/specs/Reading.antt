@@ -9,7 +9,7 @@
 -- TextRead          the cells, how many TIMEs there are and where FF FF stands; or that the lines are bad
 -- text_read          so of lines, for the time of a song
 -- lines_of           what an answer says
-use Rattle.std.specs.Prelude.{ℕ, ◌+◌, Bool, true, cond, List, [], ◌∷◌, length, drop, eqb}
+use Rattle.std.specs.Prelude.{ℕ, ◌+◌, cond, List, [], ◌∷◌, length, drop, eqb}
 use Rattle.characters.specs.Characters.{stands}
 use Rattle.saptags.specs.declared.Tag.{Tag}
 use Rattle.saptags.specs.declared.Tag.TheVariants as tag

@@ -3,7 +3,7 @@
 --                 line
 -- clock-within, fraction-within, time-within   it lies within the bytes
 -- clock-small, fraction-small, time-most       how great its value is
-use Rattle.std.specs.Prelude.{ℕ, zero, suc, ◌+◌, ◌*◌, ◌^◌, ◌-◌, ◌<◌, ◌≤◌, ◌≡◌, refl, true, ◌&&◌, ◌||◌, List, [], ◌∷◌, ◌++◌, length, drop, leb, eqb}
+use Rattle.std.specs.Prelude.{ℕ, zero, suc, ◌+◌, ◌*◌, ◌^◌, ◌<◌, ◌≤◌, ◌≡◌, refl, true, ◌&&◌, ◌||◌, List, [], ◌∷◌, ◌++◌, length, drop, leb, eqb}
 use Rattle.std.proofs.Common.{subst, arith, length-drop, leb-true, eqb-true}
 use Rattle.logic.specs.Cases.{cases}
 use Rattle.logic.specs.Truth.{both}

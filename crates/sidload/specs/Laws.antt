@@ -11,7 +11,7 @@ use Rattle.refusals.specs.Numbers.Outcome.{accepted, refused}
 use Rattle.refusals.specs.Numbers.Reason.{memory_size}
 use Rattle.refusals.specs.Tests.{test, first_of, guarded}
 use Rattle.fields.specs.Parts.{put, part_of}
-use Rattle.fields.specs.Laws.{length-put}
+use Rattle.fields.proofs.Memory.{length-put}
 use Rattle.sid.specs.declared.Header.{Header}
 use Rattle.sid.specs.Answers.{sid_outcome, Passing, tested_outcome, headed}
 use Rattle.sid.specs.Laws.{headed-guarded, read-headed, accepted-fits}

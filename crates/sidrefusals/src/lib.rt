@@ -99,6 +99,7 @@ fn has_bad_pages(x: Fields, p: Payload) -> bool
     (count == 0) | over | taken
 }
 
+#[tactic(auto, using(crate::proofs::Tests::no_payload_lem))]
 // internal: the tests of where the payload lies, 9 to 13.
 pub fn test_payload(x: Fields, p: Payload) -> Verdict
     requires { p.len < 2 ^ 63 }

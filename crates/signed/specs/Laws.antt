@@ -7,4 +7,4 @@ use Rattle.std.proofs.Common.{to_z, of_z, to_z-of_z}
 
 -- A signed number whose size is below 2^31 comes back from its 32 bits.
 pub kept : (z : ℤ) → mag z < 2 ^ 31 → to_z w32 (of_z w32 z) ≡ z
-kept z h = to_z-of_z (record { sfits = h })
+kept z h = to_z-of_z {w = w32} (record { sfits = h })

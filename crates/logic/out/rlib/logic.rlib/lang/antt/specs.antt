@@ -1,5 +1,0 @@
-pub mod Cases
-pub mod Truth
-pub mod Every
-pub mod LastArm
-pub mod Facts

@@ -1,0 +1,5 @@
+use borrow.Author.Rules.{rules}
+use Rattle.note.proofs.read_note.Goals as goal
+
+pub returns : goal.returns
+returns c = rw (c.tone_of-tone.ensures, c.length_of-length.ensures)

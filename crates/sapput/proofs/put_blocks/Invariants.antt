@@ -1,0 +1,12 @@
+-- `put_blocks` meets its contract. The invariant: the blocks that are left, put into memory as it is, make
+-- memory as it will be. Assumes nothing.
+use Prim.Native.Nat.{◌-◌}
+use lib.ListN.{length}
+use Rattle.sapput.proofs.Progress.{Putting}
+use Rattle.sapput.proofs.put_blocks.Given as goal
+
+abbrev pub invariant-loop-place : goal.invariant-loop-place
+invariant-loop-place l = Putting l.file l.at l.initial.memory l.place l.memory
+
+abbrev pub decreases-loop-place : goal.decreases-loop-place
+decreases-loop-place l = length l.file - l.place

@@ -1,0 +1,6 @@
+use mir.Facts.{to_z-of_z}
+use borrow.Author.Rules.{rules}
+use Rattle.spelling.proofs.signs.tps.Goals as goal
+
+pub returns : goal.returns
+returns c = rw (c.tps_of.ensures, c.parts_of.ensures, to_z-of_z c.ranges.v)
