@@ -2,7 +2,6 @@
 -- command-back   a command comes back from its number
 -- right          an entry is that of a byte's row
 -- entries_right  a table whose entries are right gives each second byte's meaning
--- agrees         so does the code's table
 use Prim.Native.Nat.{ℕ, ◌/◌, ◌%◌, ◌<◌}
 use mathlib.Core.Path.{◌≡◌, refl}
 use mathlib.Core.Bool.{Bool, ◌&&◌}
@@ -11,7 +10,7 @@ use lib.Dec.{T, eqb, eqb→eq}
 use lib.ListN.{length, get_or}
 use native.Mathlib.Nat.{zero-add}
 use Rattle.logic.specs.Every.{each, each_at, all_left, all_right}
-use Rattle.commandtable.specs.Codes.{Command, DCY, RUP, CAL, BMP, FLT, RNG, SNC, F-X, DEF, ATK, SUS, LFO, P&V, RDN, WAV, F-M, RLS, RES, 3-0, VOL, TAL, END, HLT, SRC, DST, none, Row, rows, second_by, command_meaning, second_outcome}
+use Rattle.commandtable.specs.Codes.{Command, DCY, RUP, CAL, BMP, FLT, RNG, SNC, F-X, DEF, ATK, SUS, LFO, P&V, RDN, WAV, F-M, RLS, RES, 3-0, VOL, TAL, END, HLT, SRC, DST, none, Row, rows, second_by, command_meaning}
 use Rattle.commandtable.specs.Numbering.{command_number, command_numbered}
 
 pub command-back : (c : Command) → command_numbered (command_number c) ≡ c
@@ -79,8 +78,5 @@ codes =
     ∷ 0x010F ∷ 0x021E ∷ 0x030F ∷ 0x0917 ∷ 0x0B0E ∷ 0x0E1E ∷ 0x090F ∷ 0x1007 ∷ 0x110F ∷ 0x021F ∷ 0x120F ∷ 0x0317 ∷ 0x0B0F ∷ 0x0E1F ∷ 0x140F ∷ 0x0000
     ∷ []
 
-all_right_entries : T (each (right rows) 0 codes)
+pub all_right_entries : T (each (right rows) 0 codes)
 all_right_entries = tt
-
-pub agrees : (b : ℕ) → b < 256 → command_meaning (command_numbered (get_or codes b 0 / 256)) (get_or codes b 0 % 256) ≡ second_outcome b
-agrees b h = entries_right rows codes all_right_entries b h

@@ -26,7 +26,7 @@ use Rattle.meaning.specs.declared.Meaning.TheVariants.{Note}
 use Rattle.meaning.specs.Answers.{Bytes}
 use Rattle.meaning.specs.Pitches.{in_tables, half_step, step_outcome}
 use Rattle.note.specs.Reading.{tone_of, note_of}
-use Rattle.note.specs.Laws.{written-note_reads}
+use Rattle.note.proofs.Back.{written-note_reads}
 use Rattle.pair.specs.Pairs.{meaning_of}
 use Rattle.pair.specs.Preferred.{preferred}
 use Rattle.pairlaws.specs.HalfSteps.{byte_tables, step_range}

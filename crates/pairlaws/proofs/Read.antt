@@ -21,7 +21,7 @@ use Rattle.meaning.specs.Answers.{Bytes}
 use Rattle.logic.specs.Every.{every, every_at, all_left, all_right, among}
 use Rattle.note.specs.Reading.{note_of}
 use Rattle.note.specs.Preferred.{preferred_first, preferred_second}
-use Rattle.note.specs.Laws.{read-note_writes}
+use Rattle.note.proofs.Back.{read-note_writes}
 use Rattle.commandsigns.specs.Signs.{detuning_of, jif_outcome}
 use Rattle.command.specs.Others.{joined_outcome}
 use Rattle.command.proofs.Firsts.{singles, joined_as}

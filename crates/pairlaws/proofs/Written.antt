@@ -21,7 +21,7 @@ use Rattle.note.specs.declared.Byte.{Byte}
 use Rattle.note.specs.declared.Byte.TheVariants.{Is, None}
 use Rattle.note.specs.Reading.{note_of}
 use Rattle.note.specs.Writing.{length_byte, tied_byte, tone_byte, two_bytes, note_spelling}
-use Rattle.note.specs.Laws.{written-note_reads}
+use Rattle.note.proofs.Back.{written-note_reads}
 use Rattle.commandtable.specs.Codes.{DCY, RUP, CAL, DEF, ATK, SUS, LFO, RDN, WAV, F-M, RLS, RES, VOL, SRC}
 use Rattle.command.specs.Others.{tempo_of}
 use Rattle.spelling.specs.Counts.{pair, no_bytes, destination, tempo}

@@ -16,7 +16,8 @@ use Rattle.meaning.specs.declared.Tone.{Tone}
 use Rattle.meaning.specs.declared.Tone.TheVariants.{Rest, Sounds}
 use Rattle.meaning.specs.Pitches.{in_tables, half_step, step_outcome}
 use Rattle.note.specs.Reading.{tone_of}
-use Rattle.note.specs.Laws.{pitch_byte, pitch_reads}
+use Rattle.note.specs.Laws.{pitch_byte}
+use Rattle.note.proofs.Back.{pitch_reads}
 
 pub record HasByte (p : Pitch) : Type 0 where
   pub byte : ℕ

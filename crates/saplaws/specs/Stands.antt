@@ -2,7 +2,7 @@
 -- leading-taken         the leading bytes are the first so many bytes
 -- Quoted, text_quoted   AUTHOR, NAME and DATE: a quote, the text and a quote
 -- decimal-number        a decimal below `most` is the number of all its digits
-use Rattle.std.specs.Prelude.{ℕ, ◌+◌, ◌<◌, min, ◌≡◌, refl, Bool, true, cond, ◌&&◌, List, [], ◌∷◌, length, get_or, take, drop, leb}
+use Rattle.std.specs.Prelude.{ℕ, ◌+◌, ◌<◌, min, ◌≡◌, refl, Bool, cond, ◌&&◌, List, [], ◌∷◌, length, get_or, take, drop, leb}
 use Rattle.std.proofs.Common.{sym, ap, subst, ◌∙◌, arith, drop-drop, eqb-true}
 use Rattle.logic.specs.Cases.{cases}
 use Rattle.logic.specs.Truth.{both}
@@ -17,7 +17,7 @@ use Rattle.saparguments.specs.declared.Argument.{Argument}
 use Rattle.saparguments.specs.declared.Argument.TheVariants as argument
 use Rattle.saparguments.specs.Arguments.{unpadded, decimal_at, text_at}
 use Rattle.saparguments.specs.Laws.{good_if}
-use Rattle.saplines.specs.declared.Line.TheVariants.{Bad, Good}
+use Rattle.saplines.specs.declared.Line.TheVariants.{Good}
 use Rattle.saplines.specs.Lines.{spaced, argument_after, with_argument, with_tag, line_at}
 use Rattle.saplaws.specs.Texts.{OfText}
 use Rattle.saplaws.specs.Texts.OfText.{author, name, date}
@@ -86,6 +86,7 @@ unfolding argument_after
 argument_quoted tag.Author author s k n v e = spaced_quoted s k n v e
 argument_quoted tag.Name name s k n v e = spaced_quoted s k n v e
 argument_quoted tag.Date date s k n v e = spaced_quoted s k n v e
+argument_quoted t o s k n v e = elim o [ ]
 
 -- In a line of AUTHOR, NAME or DATE that fits, a quote stands before the text and one after it, and the text
 -- is all the text characters that follow the first.

@@ -63,6 +63,7 @@ unfolding argument_after
 argument-size tag.Author author s n v e = spaced-size s n v e
 argument-size tag.Name name s n v e = spaced-size s n v e
 argument-size tag.Date date s n v e = spaced-size s n v e
+argument-size t o s n v e = elim o [ ]
 
 line-size : (t : Tag) → OfText t → (l : List ℕ) (n v : ℕ) → line_at l ≡ Good t n v → n ≡ length (name_of t) + (v + 3)
 unfolding line_at

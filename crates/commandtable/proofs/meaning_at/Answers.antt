@@ -1,6 +1,5 @@
 -- One line an arm: each is the command of its number.
 use borrow.Author.Tests.{ne_eqb}
-use borrow.Author.Rules.{rules}
 use Rattle.commandtable.proofs.meaning_at.Goals as goal
 
 pub returns-in-4 : goal.returns-in-4

@@ -1,6 +1,6 @@
 use mathlib.Core.Path.{◌∙◌}
 use borrow.Author.Rules.{rules}
-use Rattle.commandtable.proofs.Table.{agrees}
+use Rattle.commandtable.proofs.Agrees.{agrees}
 use Rattle.commandtable.proofs.read_second.Goals as goal
 
 pub returns : goal.returns

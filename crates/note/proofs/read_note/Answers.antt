@@ -1,4 +1,3 @@
-use borrow.Author.Rules.{rules}
 use Rattle.note.proofs.read_note.Goals as goal
 
 pub returns : goal.returns

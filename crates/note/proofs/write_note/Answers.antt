@@ -1,4 +1,3 @@
-use borrow.Author.Rules.{rules}
 use Rattle.note.proofs.write_note.Goals as goal
 
 pub returns-in-None : goal.returns-in-None

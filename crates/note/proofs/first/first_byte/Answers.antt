@@ -3,7 +3,6 @@ use mathlib.Core.Path.{◌∙◌, sym, subst}
 use native.Mathlib.Omega.{arith}
 use borrow.Author.Tests.{ne_eqb}
 use Rattle.note.specs.Laws.{Low, length-low}
-use borrow.Author.Rules.{rules}
 use Rattle.note.proofs.first.first_byte.Goals as goal
 
 pub overflow_add-result : goal.overflow_add-result

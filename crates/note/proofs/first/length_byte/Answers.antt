@@ -1,6 +1,5 @@
 use native.Mathlib.Omega.{arith}
 use Rattle.note.specs.Laws.{shape-low}
-use borrow.Author.Rules.{rules}
 use Rattle.note.proofs.first.length_byte.Goals as goal
 
 pub overflow_add-result : goal.overflow_add-result

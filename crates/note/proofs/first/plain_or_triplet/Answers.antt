@@ -1,4 +1,3 @@
-use borrow.Author.Rules.{rules}
 use Rattle.note.proofs.first.plain_or_triplet.Goals as goal
 
 pub returns-in-Plain : goal.returns-in-Plain

@@ -1,4 +1,3 @@
-use borrow.Author.Rules.{rules}
 use Rattle.note.proofs.first.valued.Goals as goal
 
 pub returns : goal.returns

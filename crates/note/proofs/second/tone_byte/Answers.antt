@@ -2,7 +2,6 @@ use mathlib.Core.Path.{◌∙◌, sym}
 use native.Mathlib.Omega.{arith}
 use Rattle.meaning.specs.Laws.{octave_low}
 use Rattle.note.specs.Laws.{accidental_low, letter_number-low}
-use borrow.Author.Rules.{rules}
 use Rattle.note.proofs.second.tone_byte.Goals as goal
 
 pub overflow_cast-octave : goal.overflow_cast-octave

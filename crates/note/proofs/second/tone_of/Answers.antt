@@ -1,5 +1,4 @@
 use borrow.Author.Tests.{ne_eqb}
-use borrow.Author.Rules.{rules}
 use Rattle.note.proofs.second.tone_of.Goals as goal
 
 pub returns-then-number-eq0 : goal.returns-then-number-eq0
