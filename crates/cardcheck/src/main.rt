@@ -3,11 +3,15 @@
 #![tactic(auto)]
 
 use card::Judged;
-use files::Loaded;
+use files::{Loaded, errors};
 use mus::Song;
 use printing::write;
 use refusals::Refusal;
 use sid::{Header, Kind};
+use std::env::{Env, FillError};
+use std::io;
+use std::io::Write;
+use std::rt::Files;
 
 mod lines;
 mod text;
@@ -27,137 +31,144 @@ const NAME: usize = 8192;
 // answer: the law `judged-held` of crates/card/specs/CutOff.antt.
 const FILE: usize = 131073;
 
-fn accept_tune(file: &[u8], h: Header) -> Checked {
-    lines::tune(file, h);
-    Checked::Accepted
+fn accept_tune(out: &mut impl Write, file: &[u8], h: Header) -> io::Result<Checked> {
+    lines::tune(out, file, h)?;
+    Ok(Checked::Accepted)
 }
 
-fn accept_sap(file: &[u8], h: sapheader::Header) -> Checked {
-    lines::sap(file, h);
-    Checked::Accepted
+fn accept_sap(out: &mut impl Write, file: &[u8], h: sapheader::Header) -> io::Result<Checked> {
+    lines::sap(out, file, h)?;
+    Ok(Checked::Accepted)
 }
 
-fn accept_song(file: &[u8], song: Song) -> Checked {
-    lines::song(file, song);
-    Checked::Accepted
+fn accept_song(out: &mut impl Write, file: &[u8], song: Song) -> io::Result<Checked> {
+    lines::song(out, file, song)?;
+    Ok(Checked::Accepted)
 }
 
-fn refuse_tune(kind: Kind, x: Refusal) -> Checked {
-    lines::kind(kind);
-    write(b"refused ");
-    lines::refusal(x);
-    write(b"\n");
-    Checked::Refused
+fn refuse_tune(out: &mut impl Write, kind: Kind, x: Refusal) -> io::Result<Checked> {
+    lines::kind(out, kind)?;
+    write(out, b"refused ")?;
+    lines::refusal(out, x)?;
+    write(out, b"\n")?;
+    Ok(Checked::Refused)
 }
 
-fn refuse_sap(x: Refusal) -> Checked {
-    write(b": SAP refused ");
-    lines::refusal(x);
-    write(b"\n");
-    Checked::Refused
+fn refuse_sap(out: &mut impl Write, x: Refusal) -> io::Result<Checked> {
+    write(out, b": SAP refused ")?;
+    lines::refusal(out, x)?;
+    write(out, b"\n")?;
+    Ok(Checked::Refused)
 }
 
-fn refuse_song(file: &[u8], x: Refusal) -> Checked {
-    write(b": MUS refused ");
-    lines::refusal_in_song(file, x);
-    write(b"\n");
-    Checked::Refused
+fn refuse_song(out: &mut impl Write, file: &[u8], x: Refusal) -> io::Result<Checked> {
+    write(out, b": MUS refused ")?;
+    lines::refusal_in_song(out, file, x)?;
+    write(out, b"\n")?;
+    Ok(Checked::Refused)
 }
 
-fn refuse_other(file: &[u8], x: Refusal) -> Checked {
+fn refuse_other(out: &mut impl Write, file: &[u8], x: Refusal) -> io::Result<Checked> {
     if file.len() == 0 {
-        write(b": empty,");
+        write(out, b": empty,")?;
     } else {
-        write(b":");
+        write(out, b":")?;
     }
-    write(b" neither PSID, RSID, SAP nor MUS (as MUS refused ");
-    lines::refusal(x);
-    write(b")\n");
-    Checked::Refused
+    write(out, b" neither PSID, RSID, SAP nor MUS (as MUS refused ")?;
+    lines::refusal(out, x)?;
+    write(out, b")\n")?;
+    Ok(Checked::Refused)
 }
 
-fn check_file(name: &[u8], file: &[u8]) -> Checked {
-    text::show_name(name);
+fn check_file(out: &mut impl Write, name: &[u8], file: &[u8]) -> io::Result<Checked> {
+    text::show_name(out, name)?;
     match card::judge(file) {
-        Judged::Tune(h) => accept_tune(file, h),
-        Judged::RefusedTune(kind, x) => refuse_tune(kind, x),
-        Judged::Sap(h) => accept_sap(file, h),
-        Judged::RefusedSap(x) => refuse_sap(x),
-        Judged::Song(song) => accept_song(file, song),
-        Judged::RefusedSong(x) => refuse_song(file, x),
-        Judged::Neither(x) => refuse_other(file, x),
+        Judged::Tune(h) => accept_tune(out, file, h),
+        Judged::RefusedTune(kind, x) => refuse_tune(out, kind, x),
+        Judged::Sap(h) => accept_sap(out, file, h),
+        Judged::RefusedSap(x) => refuse_sap(out, x),
+        Judged::Song(song) => accept_song(out, file, song),
+        Judged::RefusedSong(x) => refuse_song(out, file, x),
+        Judged::Neither(x) => refuse_other(out, file, x),
     }
 }
 
-fn cannot(name: &[u8], what: &[u8], error: i32) -> Checked {
-    text::show_name(name);
-    write(what);
-    lines::error(error);
-    write(b"\n");
-    Checked::Unreadable
+fn cannot(out: &mut impl Write, name: &[u8], what: &[u8], error: i32) -> io::Result<Checked> {
+    text::show_name(out, name)?;
+    write(out, what)?;
+    lines::error(out, error)?;
+    write(out, b"\n")?;
+    Ok(Checked::Unreadable)
 }
 
 // A SAP file of which only a part is there: no answer of a part is given for the whole.
-fn not_looked_at(name: &[u8]) -> Checked {
-    text::show_name(name);
-    write(b": SAP not looked at: over 131,072 bytes, more than cardcheck holds\n");
-    Checked::Unreadable
+fn not_looked_at(out: &mut impl Write, name: &[u8]) -> io::Result<Checked> {
+    text::show_name(out, name)?;
+    write(
+        out,
+        b": SAP not looked at: over 131,072 bytes, more than cardcheck holds\n",
+    )?;
+    Ok(Checked::Unreadable)
 }
 
 // What was read of a file.
-fn check_read(name: &[u8], file: &[u8]) -> Checked {
+fn check_read(out: &mut impl Write, name: &[u8], file: &[u8]) -> io::Result<Checked> {
     if card::is_cut_sap(file, FILE) {
-        not_looked_at(name)
+        not_looked_at(out, name)
     } else {
-        check_file(name, file)
+        check_file(out, name, file)
     }
 }
 
-fn check_named(name: &[u8]) -> Checked {
+fn check_named(rt: &impl Files, out: &mut impl Write, name: &[u8]) -> io::Result<Checked> {
     let mut file = [0u8; FILE];
-    match files::read_file(name, &mut file) {
-        Loaded::NotOpened(error) => cannot(name, b": cannot be opened: ", error),
-        Loaded::NotRead(error) => cannot(name, b": cannot be read: ", error),
-        Loaded::Bytes(len) => check_read(name, fields::part(&file, 0, len)),
+    match files::read_file(rt, name, &mut file) {
+        Loaded::NotOpened(error) => cannot(out, name, b": cannot be opened: ", error),
+        Loaded::NotRead(error) => cannot(out, name, b": cannot be read: ", error),
+        Loaded::Bytes(len) => check_read(out, name, fields::part(&file, 0, len)),
     }
 }
 
-fn check_argument(i: usize) -> Checked {
+// Checks the file that argument i names.
+fn check_argument(rt: &(impl Env + Files), out: &mut impl Write, i: usize) -> io::Result<Checked> {
     let mut name = [0u8; NAME];
-    let n = os::arg(i, &mut name);
-    let error = os::errno();
-    if error != 0 {
-        // its first bytes are there
-        return cannot(fields::part(&name, 0, 64), b"..: cannot be opened: ", error);
+    match rt.arg(i, &mut name) {
+        Ok(n) => check_named(rt, out, fields::part(&name, 0, n)),
+        Err(error) => {
+            // its first bytes are there
+            let start = fields::part(&name, 0, 64);
+            cannot(out, start, b"..: cannot be opened: ", number(error))
+        }
     }
-    check_named(fields::part(&name, 0, n))
 }
 
-fn main() {
-    let count = os::arg_count();
-    if count <= 1 {
-        lines::usage();
-        return;
+// The machine's number for an argument that is not given: it is too long for the list, or there is none.
+fn number(error: FillError) -> i32 {
+    match error {
+        FillError::TooLong => errors::ENAMETOOLONG,
+        FillError::NotPresent => errors::EINVAL,
     }
+}
+
+fn check_all(rt: &(impl Env + Files), out: &mut impl Write, count: usize) -> io::Result<()> {
     let mut accepted = 0;
     let mut refused = 0;
     let mut unreadable = 0;
-    let mut i = 1;
-    while i < count {
-        match check_argument(i) {
-            Checked::Accepted => {
-                accepted += 1;
-                i += 1;
-            }
-            Checked::Refused => {
-                refused += 1;
-                i += 1;
-            }
-            Checked::Unreadable => {
-                unreadable += 1;
-                i += 1;
-            }
+    for i in 1..count {
+        match check_argument(rt, out, i)? {
+            Checked::Accepted => accepted += 1,
+            Checked::Refused => refused += 1,
+            Checked::Unreadable => unreadable += 1,
         }
     }
-    lines::total(accepted, refused, unreadable);
+    lines::total(out, accepted, refused, unreadable)
+}
+
+fn main(rt: HostRuntime) -> io::Result<()> {
+    let mut out = rt.stdout();
+    let count = files::arg_count(&rt);
+    if count <= 1 {
+        return lines::usage(&mut out);
+    }
+    check_all(&rt, &mut out, count)
 }

@@ -1,8 +1,20 @@
-// A file by its name, whole or its first bytes, for programs.
+// What programs read: a file by its name, whole or its first bytes, standard input, and the arguments.
 #![tactic(auto)]
 
-ghost use Rattle.std.specs.Prelude.{◌≡◌, min};
-ghost use Rattle.files.specs.Reading.{ReadInto};
+ghost use Rattle.std.specs.Prelude.{◌<◌, IfOk, length, take};
+ghost use Rattle.std.specs.Io.KnownBytes.{Consumes, IsAtEnd};
+ghost use Rattle.files.specs.Reading.{Filled, ReadInto};
+
+mod arguments;
+pub mod errors;
+
+pub use arguments::{arg, arg_count};
+use std::io::{Error, Read, Write};
+use std::rt::Files;
+use std::{fs, io, str};
+
+// More bytes than the longest path has.
+const PATH_MAX: usize = 4096;
 
 // How many bytes were read; or the machine's error number, where the file was not opened, and where it was
 // opened and not read.
@@ -13,48 +25,72 @@ pub enum Loaded {
     NotRead(i32),
 }
 
-fn lesser(a: usize, b: usize) -> usize
-    ensures { result ≡ min a b }
-{
-    if a < b { a } else { b }
+// The machine's number of an error. Only std's own, that a name has a zero byte in it, has none.
+fn number(error: Error) -> i32 {
+    match error.raw_os_error() {
+        Some(n) => n,
+        None => errors::EINVAL,
+    }
 }
 
-// A file that is open, from its start, until it ends or the list is full. The raw call tells an end from an
-// error, which io::read_full does not. It is lent a list of its own: what it does to the cells after those
-// that it counts, nobody says. That list has no multiple of 4,096 bytes: where both lists lie at such a
-// distance, copying takes several times as long.
-fn read_open(fd: i32, out: &mut [u8]) -> Loaded
-    ensures { ReadInto result out.old out.new }
+// internal: what a reader gives, until it ends or the list is full; the cells after that stay as they were.
+// The reader is lent a list of its own: what it does to the cells after those that it counts, nobody says.
+// That list has no multiple of 4,096 bytes: where both lists lie at such a distance, copying takes several
+// times as long.
+pub fn read_full<R: Read>(from: &mut R, out: &mut [u8]) -> io::Result<usize>
+    ensures filled { IfOk result (λ n. Filled n out.old out.new) }
+    ensures bytes { IfOk result (λ n.
+        Consumes (R.remaining from.old) (R.remaining from.new) (take n out.new)) }
+    ensures end { IfOk result (λ n. n < length out.new → IsAtEnd (R.remaining from.new)) }
 {
     let mut done = 0;
     let mut chunk = [0u8; 20000];
     while done < out.len() {
-        let got = libc::read(fd, &mut chunk);
-        if got < 0 {
-            return Loaded::NotRead(os::errno());
-        }
-        let n = io::count(got, &chunk);
+        let room = (out.len() - done).min(chunk.len());
+        let n = from.read(&mut chunk[..room])?;
         if n == 0 {
-            return Loaded::Bytes(done);
+            return Ok(done);
         }
-        let room = out.len() - done;
-        let m = lesser(n, room);
-        fields::copy_to(fields::part(&chunk, 0, m), out, done);
-        done += m;
+        fields::copy_to(fields::part(&chunk, 0, n), out, done);
+        done += n;
     }
-    Loaded::Bytes(done)
+    Ok(done)
+}
+
+// A file that is open, from its start, until it ends or the list is full.
+fn read_open<R: Read>(file: &mut R, out: &mut [u8]) -> Loaded
+    ensures { ReadInto result out.old out.new }
+{
+    match read_full(file, out) {
+        Ok(n) => Loaded::Bytes(n),
+        Err(error) => Loaded::NotRead(number(error)),
+    }
 }
 
 // internal: reads the file that the path names, from its start, until it ends or the list is full. The cells
 // after the bytes that are counted stay as they were, and all of them where the file is not opened.
-pub fn read_file(path: &[u8], out: &mut [u8]) -> Loaded
+pub fn read_file(rt: &impl Files, path: &[u8], out: &mut [u8]) -> Loaded
     ensures { ReadInto result out.old out.new }
 {
-    let fd = os::open_read(path);
-    if fd < 0 {
-        return Loaded::NotOpened(os::errno());
+    if PATH_MAX <= path.len() {
+        return Loaded::NotOpened(errors::ENAMETOOLONG);
     }
-    let answer = read_open(fd, out);
-    libc::close(fd);
-    answer
+    let Ok(name) = str::from_utf8(path) else {
+        return Loaded::NotOpened(errors::EILSEQ);
+    };
+    match fs::open(rt, name) {
+        Ok(mut file) => read_open(&mut file, out),
+        Err(error) => Loaded::NotOpened(number(error)),
+    }
+}
+
+// internal: a line on standard error of what failed, a colon, and the machine's words for the error number.
+pub fn fail(rt: &HostRuntime, what: &[u8], error: i32) -> io::Result<()> {
+    let words = Error::from_raw_os_error(error).to_string(rt.alloc())?;
+    let mut err = rt.stderr();
+    err.write_all(what)?;
+    match words.as_str().split_once(" (os error ") {
+        Some((text, _)) => writeln!(err, ": {text}"),
+        None => writeln!(err, ": {words}"),
+    }
 }

@@ -2,9 +2,9 @@
 ghost use Rattle.std.specs.Prelude.{◌≤◌};
 
 use crate::WINDOW;
-use libc::STDOUT_FILENO;
-use printing::{put, put_after, put_number};
-use std::num::wrapping_add_u32;
+use printing::{put, put_after, put_number, write};
+use std::io;
+use std::io::Write;
 
 const BUFFER: usize = 65536;
 
@@ -19,9 +19,9 @@ fn put_line(out: &mut [u8], at: usize, voice: u32, event: u32, place: u32, jiffy
     put(out, d, b"\n")
 }
 
-// Answers whether all was written.
-fn write_out(out: &[u8], used: usize) -> bool {
-    io::write_all(STDOUT_FILENO, fields::part(out, 0, used))
+fn write_out(to: &mut impl Write, out: &[u8], used: usize) -> io::Result<()> {
+    write(to, fields::part(out, 0, used))?;
+    Ok(())
 }
 
 // The lesser of a number and a window's events.
@@ -31,41 +31,38 @@ fn within(n: usize) -> usize
     if n < WINDOW { n } else { WINDOW }
 }
 
-// Shows a window's first events, so many of them, the first with its number; answers whether all was written.
+// Shows a window's first events, so many of them, the first with its number.
 fn show_through(
+    to: &mut impl Write,
     out: &mut [u8],
     voice: u32,
     first: u32,
     count: usize,
     offsets: &[u32; WINDOW],
     jiffies: &[u32; WINDOW],
-) -> bool {
-    let shown = within(count);
+) -> io::Result<()> {
     let mut used = 0;
     let mut event = first;
-    let mut i = 0;
-    while i < shown {
+    for i in 0..within(count) {
         if NEARLY_FULL < used {
-            if !write_out(out, used) {
-                return false;
-            }
+            write_out(to, out, used)?;
             used = 0;
         }
         used = put_line(out, used, voice, event, offsets[i], jiffies[i]);
-        event = wrapping_add_u32(event, 1);
-        i += 1;
+        event = event.wrapping_add(1);
     }
-    write_out(out, used)
+    write_out(to, out, used)
 }
 
 // The same, with a buffer of its own.
 pub fn show_events(
+    to: &mut impl Write,
     voice: u32,
     first: u32,
     count: usize,
     offsets: &[u32; WINDOW],
     jiffies: &[u32; WINDOW],
-) -> bool {
+) -> io::Result<()> {
     let mut out = [0u8; BUFFER];
-    show_through(&mut out, voice, first, count, offsets, jiffies)
+    show_through(to, &mut out, voice, first, count, offsets, jiffies)
 }

@@ -3,10 +3,11 @@
 #![tactic(auto)]
 
 use events::Listed;
-use libc::{STDIN_FILENO, STDOUT_FILENO};
 use mus::{Reading, Song};
 use printing::{write, write_refusal};
 use refusals::Refusal;
+use std::io;
+use std::io::Write;
 
 mod lines;
 
@@ -14,62 +15,67 @@ mod lines;
 // start, so windows are to be few: at most 8 for the 1,048,576 pairs that an accepted voice walks.
 pub const WINDOW: usize = 131072;
 
-fn refuse(x: Refusal) {
-    write_refusal(x);
-    write(b"\n");
+fn refuse(out: &mut impl Write, x: Refusal) -> io::Result<()> {
+    write_refusal(out, x)?;
+    write(out, b"\n")?;
+    Ok(())
 }
 
-// Shows a voice's events from number first on, as many as a window holds; answers whether to go on, which is
-// not so once output is closed.
-fn show_window(file: &[u8], voice: u32, first: u32) -> bool {
+// Shows a voice's events from number first on, as many as a window holds; answers whether to go on.
+fn show_window(out: &mut impl Write, file: &[u8], voice: u32, first: u32) -> io::Result<bool> {
     let mut offsets = [0u32; WINDOW];
     let mut jiffies = [0u32; WINDOW];
     match events::list(file, voice, first as u64, &mut offsets, &mut jiffies) {
-        Listed::Count(count) => lines::show_events(voice, first, count, &offsets, &jiffies),
+        Listed::Count(count) => {
+            lines::show_events(out, voice, first, count, &offsets, &jiffies)?;
+            Ok(true)
+        }
         // no voice of an accepted file is refused
         Listed::Refused(x) => {
-            refuse(x);
-            false
+            refuse(out, x)?;
+            Ok(false)
         }
     }
 }
 
 // Shows a voice of so many events; answers whether to go on.
-fn show_voice(file: &[u8], voice: u32, events: u32) -> bool {
+fn show_voice(out: &mut impl Write, file: &[u8], voice: u32, events: u32) -> io::Result<bool> {
     let mut first = 0;
     while first < events {
-        if !show_window(file, voice, first) {
-            return false;
+        if !show_window(out, file, voice, first)? {
+            return Ok(false);
         }
         if events - first <= WINDOW as u32 {
-            return true;
+            return Ok(true);
         }
         first += WINDOW as u32;
     }
-    true
+    Ok(true)
 }
 
-fn show_song(file: &[u8], song: Song) {
-    if !io::write_all(STDOUT_FILENO, b"voice event place jiffy\n") {
-        return;
+fn show_song(out: &mut impl Write, file: &[u8], song: Song) -> io::Result<()> {
+    write(out, b"voice event place jiffy\n")?;
+    if !show_voice(out, file, 1, song.voice1.events)? {
+        return Ok(());
     }
-    if !show_voice(file, 1, song.voice1.events) {
-        return;
+    if !show_voice(out, file, 2, song.voice2.events)? {
+        return Ok(());
     }
-    if !show_voice(file, 2, song.voice2.events) {
-        return;
-    }
-    show_voice(file, 3, song.voice3.events);
+    show_voice(out, file, 3, song.voice3.events)?;
+    Ok(())
 }
 
-fn main() {
+fn report(out: &mut impl Write, file: &[u8]) -> io::Result<()> {
+    match mus::accept(file) {
+        Reading::Accepted(song) => show_song(out, file, song),
+        Reading::Refused(x) => refuse(out, x),
+    }
+}
+
+fn main(rt: HostRuntime) -> io::Result<()> {
     // longer than any accepted file, so that what is cut off changes no answer: past 65,536 bytes every file
     // is refused 22
     let mut file = [0u8; 66000];
-    let n = io::read_full(STDIN_FILENO, &mut file);
-    let answer = mus::accept(&file[..n]);
-    match answer {
-        Reading::Accepted(song) => show_song(&file[..n], song),
-        Reading::Refused(x) => refuse(x),
-    }
+    let n = files::read_full(&mut rt.stdin(), &mut file)?;
+    report(&mut rt.stdout(), &file[..n])
 }

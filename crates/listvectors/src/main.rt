@@ -8,7 +8,8 @@ use events::Listed;
 use files::Loaded;
 use printing::{write, write_after, write_refusal};
 use refusals::Refusal;
-use std::num::{wrapping_add_u32, wrapping_add_u64, wrapping_add_usize, wrapping_sub_u64};
+use std::io;
+use std::io::Write;
 
 // A call beside its file: of each list, how many cells are lent.
 #[derive(Clone, Copy)]
@@ -19,68 +20,64 @@ struct Call {
     jiffies: u64,
 }
 
-fn show_refusal(x: Refusal) {
-    write(b" refused ");
-    write_refusal(x);
+fn show_refusal(out: &mut impl Write, x: Refusal) -> io::Result<()> {
+    write(out, b" refused ")?;
+    write_refusal(out, x)?;
+    Ok(())
 }
 
-fn show_answer(answer: Listed) {
+fn show_answer(out: &mut impl Write, answer: Listed) -> io::Result<()> {
     match answer {
         Listed::Count(count) => {
-            write_after(b" count ", count as u64);
+            write_after(out, b" count ", count as u64)?;
+            Ok(())
         }
-        Listed::Refused(x) => show_refusal(x),
+        Listed::Refused(x) => show_refusal(out, x),
     }
 }
 
-fn show_cell(x: u32) {
-    write_after(b" ", x as u64);
+fn show_cell(out: &mut impl Write, x: u32) -> io::Result<()> {
+    write_after(out, b" ", x as u64)?;
+    Ok(())
 }
 
-fn show_cells(cells: &[u32]) {
-    let mut i = 0;
-    while i < cells.len() {
-        show_cell(cells[i]);
-        i += 1;
+fn show_cells(out: &mut impl Write, cells: &[u32]) -> io::Result<()> {
+    for cell in cells {
+        show_cell(out, *cell)?;
     }
+    Ok(())
 }
 
 // Puts a number, the next one, and so on into the cells, so that a changed cell shows.
 fn mark(cells: &mut [u32], from: u32) {
     let mut value = from;
-    let mut i = 0;
-    while i < cells.len() {
-        cells[i] = value;
-        value = wrapping_add_u32(value, 1);
-        i += 1;
+    for cell in cells {
+        *cell = value;
+        value = value.wrapping_add(1);
     }
 }
 
 // Ten times n, and the digit.
 fn with_digit(n: u64, digit: u8) -> u64 {
-    let two = wrapping_add_u64(n, n);
-    let four = wrapping_add_u64(two, two);
-    let ten = wrapping_add_u64(wrapping_add_u64(four, four), two);
-    wrapping_add_u64(ten, wrapping_sub_u64(digit as u64, 48))
+    n.wrapping_mul(10)
+        .wrapping_add((digit as u64).wrapping_sub(48))
 }
 
 fn number(text: &[u8]) -> u64 {
     let mut n: u64 = 0;
-    let mut i = 0;
-    while i < text.len() {
-        n = with_digit(n, text[i]);
-        i += 1;
+    for digit in text {
+        n = with_digit(n, *digit);
     }
     n
 }
 
 // Argument i, shown with a space before it, as a number.
-fn argument(i: usize) -> u64 {
+fn argument(rt: &HostRuntime, out: &mut impl Write, i: usize) -> io::Result<u64> {
     let mut word = [0u8; 32];
-    let n = os::arg(i, &mut word);
-    write(b" ");
-    write(&word[..n]);
-    number(&word[..n])
+    let n = files::arg(rt, i, &mut word);
+    write(out, b" ")?;
+    write(out, &word[..n])?;
+    Ok(number(&word[..n]))
 }
 
 // The lesser of a number and a length.
@@ -91,9 +88,9 @@ fn within(n: u64, len: usize) -> usize
 }
 
 // Shows the cells that were lent, and two after them.
-fn show_lent(cells: &[u32], n: u64) {
-    let shown = within(wrapping_add_u64(n, 2), cells.len());
-    show_cells(&cells[0..shown]);
+fn show_lent(out: &mut impl Write, cells: &[u32], n: u64) -> io::Result<()> {
+    let shown = within(n.wrapping_add(2), cells.len());
+    show_cells(out, &cells[0..shown])
 }
 
 // Lists into the first cells of each list.
@@ -109,60 +106,68 @@ fn list(file: &[u8], call: Call, offsets: &mut [u32], jiffies: &mut [u32]) -> Li
     )
 }
 
-fn run(file: &[u8], call: Call, offsets: &mut [u32], jiffies: &mut [u32]) {
+fn run(
+    out: &mut impl Write,
+    file: &[u8],
+    call: Call,
+    offsets: &mut [u32],
+    jiffies: &mut [u32],
+) -> io::Result<()> {
     mark(offsets, 4000000000);
     mark(jiffies, 3000000000);
-    show_answer(list(file, call, offsets, jiffies));
-    write(b" offsets");
-    show_lent(offsets, call.offsets);
-    write(b" jiffies");
-    show_lent(jiffies, call.jiffies);
-    write(b"\n");
+    show_answer(out, list(file, call, offsets, jiffies))?;
+    write(out, b" offsets")?;
+    show_lent(out, offsets, call.offsets)?;
+    write(out, b" jiffies")?;
+    show_lent(out, jiffies, call.jiffies)?;
+    write(out, b"\n")?;
+    Ok(())
 }
 
 // Each list has 48 cells.
-fn report(file: &[u8], call: Call) {
+fn report(out: &mut impl Write, file: &[u8], call: Call) -> io::Result<()> {
     let mut offsets = [0u32; 48];
     let mut jiffies = [0u32; 48];
-    run(file, call, &mut offsets, &mut jiffies);
+    run(out, file, call, &mut offsets, &mut jiffies)
 }
 
 // What the arguments after argument i, the file's name, say.
-fn call_after(i: usize) -> Call {
-    let voice = argument(wrapping_add_usize(i, 1));
-    let first = argument(wrapping_add_usize(i, 2));
-    let offsets = argument(wrapping_add_usize(i, 3));
-    let jiffies = argument(wrapping_add_usize(i, 4));
-    Call {
+fn call_after(rt: &HostRuntime, out: &mut impl Write, i: usize) -> io::Result<Call> {
+    let voice = argument(rt, out, i.wrapping_add(1))?;
+    let first = argument(rt, out, i.wrapping_add(2))?;
+    let offsets = argument(rt, out, i.wrapping_add(3))?;
+    let jiffies = argument(rt, out, i.wrapping_add(4))?;
+    Ok(Call {
         voice: (voice % 4294967296) as u32,
-        first: first,
-        offsets: offsets,
-        jiffies: jiffies,
-    }
+        first,
+        offsets,
+        jiffies,
+    })
+}
+
+fn report_call(rt: &HostRuntime, name: &[u8], file: &[u8], i: usize) -> io::Result<()> {
+    let mut out = rt.stdout();
+    write(&mut out, name)?;
+    let call = call_after(rt, &mut out, i)?;
+    report(&mut out, file, call)
 }
 
 // Reads the file that argument i names, and reports the call of it.
-fn report_row(i: usize) {
+fn report_row(rt: &HostRuntime, i: usize) -> io::Result<()> {
     let mut name = [0u8; 64];
     let mut file = [0u8; 66000];
-    let n = os::arg(i, &mut name);
-    match files::read_file(&name[..n], &mut file) {
-        Loaded::Bytes(len) => {
-            write(&name[..n]);
-            report(fields::part(&file, 0, len), call_after(i));
-        }
-        Loaded::NotOpened(_) => os::fail(&name[..n]),
-        Loaded::NotRead(_) => os::fail(&name[..n]),
+    let n = files::arg(rt, i, &mut name);
+    match files::read_file(rt, &name[..n], &mut file) {
+        Loaded::Bytes(len) => report_call(rt, &name[..n], fields::part(&file, 0, len), i),
+        Loaded::NotOpened(error) => files::fail(rt, &name[..n], error),
+        Loaded::NotRead(error) => files::fail(rt, &name[..n], error),
     }
 }
 
-fn main() {
-    let rows = os::arg_count() / 5;
-    let mut row = 0;
-    let mut i = 1;
-    while row < rows {
-        report_row(i);
-        row += 1;
-        i = wrapping_add_usize(i, 5);
+fn main(rt: HostRuntime) -> io::Result<()> {
+    let rows = files::arg_count(&rt) / 5;
+    for row in 0..rows {
+        report_row(&rt, 5 * row + 1)?;
     }
+    Ok(())
 }

@@ -7,96 +7,101 @@ use files::Loaded;
 use mus::{LineAnswer, Reading, Song, Voice};
 use printing::{write, write_after, write_refusal};
 use refusals::Refusal;
+use std::io;
+use std::io::Write;
 
-fn show_voice(words: &[u8], v: Voice) {
-    write_after(words, v.offset as u64);
-    write_after(b" ", v.length as u64);
-    write_after(b" ", v.events as u64);
-    write_after(b" ", v.walked as u64);
+fn show_voice(out: &mut impl Write, words: &[u8], v: Voice) -> io::Result<()> {
+    write_after(out, words, v.offset as u64)?;
+    write_after(out, b" ", v.length as u64)?;
+    write_after(out, b" ", v.events as u64)?;
+    write_after(out, b" ", v.walked as u64)?;
+    Ok(())
 }
 
-fn show_span(span: Span) {
-    write_after(b" ", span.from as u64);
-    write_after(b" ", span.len as u64);
+fn show_span(out: &mut impl Write, span: Span) -> io::Result<()> {
+    write_after(out, b" ", span.from as u64)?;
+    write_after(out, b" ", span.len as u64)?;
+    Ok(())
 }
 
-fn show_song(song: Song) {
-    write_after(b" accepted load ", song.load as u64);
-    show_voice(b" v1 ", song.voice1);
-    show_voice(b" v2 ", song.voice2);
-    show_voice(b" v3 ", song.voice3);
-    write(b" lines");
-    show_span(song.line1);
-    show_span(song.line2);
-    show_span(song.line3);
-    show_span(song.line4);
-    show_span(song.line5);
+fn show_song(out: &mut impl Write, song: Song) -> io::Result<()> {
+    write_after(out, b" accepted load ", song.load as u64)?;
+    show_voice(out, b" v1 ", song.voice1)?;
+    show_voice(out, b" v2 ", song.voice2)?;
+    show_voice(out, b" v3 ", song.voice3)?;
+    write(out, b" lines")?;
+    show_span(out, song.line1)?;
+    show_span(out, song.line2)?;
+    show_span(out, song.line3)?;
+    show_span(out, song.line4)?;
+    show_span(out, song.line5)
 }
 
-fn show_refusal(x: Refusal) {
-    write(b" refused ");
-    write_refusal(x);
+fn show_refusal(out: &mut impl Write, x: Refusal) -> io::Result<()> {
+    write(out, b" refused ")?;
+    write_refusal(out, x)?;
+    Ok(())
 }
 
-fn show_reading(answer: Reading) {
+fn show_reading(out: &mut impl Write, answer: Reading) -> io::Result<()> {
     match answer {
-        Reading::Accepted(song) => show_song(song),
-        Reading::Refused(x) => show_refusal(x),
+        Reading::Accepted(song) => show_song(out, song),
+        Reading::Refused(x) => show_refusal(out, x),
     }
 }
 
 // A text line in brackets, which hold nothing where there is no such line and where the file is refused.
-fn show_text(file: &[u8], number: u64) {
-    write(b"[");
+fn show_text(out: &mut impl Write, file: &[u8], number: u64) -> io::Result<()> {
+    write(out, b"[")?;
     match mus::text_line(file, number) {
         LineAnswer::At(span) => {
-            write(fields::span_part(file, span));
+            write(out, fields::span_part(file, span))?;
         }
         LineAnswer::NoSuchLine => {}
         LineAnswer::Refused(_) => {}
     }
-    write(b"]");
+    write(out, b"]")?;
+    Ok(())
 }
 
 // What numbers 0 to 6, one that is 1 in 32 bits, and the type's greatest give: only 1 to 5 are lines.
-fn show_texts(file: &[u8]) {
-    write(b" text ");
-    show_text(file, 0);
-    show_text(file, 1);
-    show_text(file, 2);
-    show_text(file, 3);
-    show_text(file, 4);
-    show_text(file, 5);
-    show_text(file, 6);
-    show_text(file, 4294967297);
-    show_text(file, u64::MAX);
+fn show_texts(out: &mut impl Write, file: &[u8]) -> io::Result<()> {
+    write(out, b" text ")?;
+    show_text(out, file, 0)?;
+    show_text(out, file, 1)?;
+    show_text(out, file, 2)?;
+    show_text(out, file, 3)?;
+    show_text(out, file, 4)?;
+    show_text(out, file, 5)?;
+    show_text(out, file, 6)?;
+    show_text(out, file, 4294967297)?;
+    show_text(out, file, u64::MAX)
 }
 
-fn report(name: &[u8], file: &[u8]) {
+fn report(out: &mut impl Write, name: &[u8], file: &[u8]) -> io::Result<()> {
     let answer = mus::accept(file);
-    write(name);
-    show_reading(answer);
-    show_texts(file);
-    write(b"\n");
+    write(out, name)?;
+    show_reading(out, answer)?;
+    show_texts(out, file)?;
+    write(out, b"\n")?;
+    Ok(())
 }
 
 // Reports the file that argument i names.
-fn report_argument(i: usize) {
+fn report_argument(rt: &HostRuntime, i: usize) -> io::Result<()> {
     let mut name = [0u8; 64];
     let mut file = [0u8; 66000];
-    let n = os::arg(i, &mut name);
-    match files::read_file(&name[..n], &mut file) {
-        Loaded::Bytes(len) => report(&name[..n], fields::part(&file, 0, len)),
-        Loaded::NotOpened(_) => os::fail(&name[..n]),
-        Loaded::NotRead(_) => os::fail(&name[..n]),
+    let n = files::arg(rt, i, &mut name);
+    match files::read_file(rt, &name[..n], &mut file) {
+        Loaded::Bytes(len) => report(&mut rt.stdout(), &name[..n], fields::part(&file, 0, len)),
+        Loaded::NotOpened(error) => files::fail(rt, &name[..n], error),
+        Loaded::NotRead(error) => files::fail(rt, &name[..n], error),
     }
 }
 
-fn main() {
-    let count = os::arg_count();
-    let mut i = 1;
-    while i < count {
-        report_argument(i);
-        i += 1;
+fn main(rt: HostRuntime) -> io::Result<()> {
+    for i in 1..files::arg_count(&rt) {
+        report_argument(&rt, i)?;
     }
+    Ok(())
 }

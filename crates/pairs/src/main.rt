@@ -2,10 +2,11 @@
 // byte is no pair and is left out.
 #![tactic(auto)]
 
-use libc::STDIN_FILENO;
 use meaning::{Meaning, Reading, Spelling};
 use printing::{put, put_after, put_hex, write};
 use refusals::Refusal;
+use std::io;
+use std::io::{Read, Write};
 
 mod commands;
 mod notes;
@@ -56,48 +57,47 @@ fn put_line(out: &mut [u8], at: usize, first: u8, second: u8) -> usize {
     put(out, b, b"\n")
 }
 
-fn write_out(out: &[u8], used: usize) {
-    write(fields::part(out, 0, used));
+fn write_out(to: &mut impl Write, out: &[u8], used: usize) -> io::Result<()> {
+    write(to, fields::part(out, 0, used))?;
+    Ok(())
 }
 
 // Gives the place where there is room for a line: this one, or the start after the buffer is written out.
-fn with_room(out: &[u8], used: usize) -> usize {
+fn with_room(to: &mut impl Write, out: &[u8], used: usize) -> io::Result<usize> {
     if used < NEARLY_FULL {
-        used
+        Ok(used)
     } else {
-        write_out(out, used);
-        0
+        write_out(to, out, used)?;
+        Ok(0)
     }
 }
 
-fn show_pairs(input: &[u8], out: &mut [u8]) {
-    let pairs = input.len() / 2;
+fn show_pairs(to: &mut impl Write, input: &[u8], out: &mut [u8]) -> io::Result<()> {
     let mut used = 0;
-    let mut k = 0;
-    while k < pairs {
-        let at = with_room(out, used);
+    for k in 0..input.len() / 2 {
+        let at = with_room(to, out, used)?;
         used = put_line(out, at, input[2 * k], input[2 * k + 1]);
-        k += 1;
     }
-    write_out(out, used);
+    write_out(to, out, used)
 }
 
 // Takes one part of the input; answers whether there may be another.
-fn show_part() -> bool {
+fn show_part(from: &mut impl Read, to: &mut impl Write) -> io::Result<bool> {
     let mut input = [0u8; PART];
     let mut out = [0u8; PART];
-    let n = io::read_full(STDIN_FILENO, &mut input);
-    show_pairs(&input[..n], &mut out);
-    n == PART
+    let n = files::read_full(from, &mut input)?;
+    show_pairs(to, &input[..n], &mut out)?;
+    Ok(n == PART)
 }
 
-fn main() {
+fn main(rt: HostRuntime) -> io::Result<()> {
+    let mut from = rt.stdin();
+    let mut to = rt.stdout();
     // nothing proves that input ends; so many parts no input has
-    let mut left = u64::MAX;
-    while 0 < left {
-        if !show_part() {
-            return;
+    for _ in 0..u64::MAX {
+        if !show_part(&mut from, &mut to)? {
+            break;
         }
-        left -= 1;
     }
+    Ok(())
 }

@@ -2,15 +2,18 @@
 // tools/pairvectors says what each must give.
 #![tactic(auto)]
 
+use std::io;
+
 mod commands;
 mod notes;
 mod show;
 mod signs;
 
-fn main() {
-    notes::show_notes();
-    commands::show_seconds();
-    commands::show_others();
-    signs::show_signs();
-    notes::show_half_steps();
+fn main(rt: HostRuntime) -> io::Result<()> {
+    let mut out = rt.stdout();
+    notes::show_notes(&mut out)?;
+    commands::show_seconds(&mut out)?;
+    commands::show_others(&mut out)?;
+    signs::show_signs(&mut out)?;
+    notes::show_half_steps(&mut out)
 }

@@ -5,53 +5,75 @@ use meaning::{
 };
 use printing::{write, write_hex, write_refusal, write_signed};
 use refusals::Refusal;
+use std::io;
+use std::io::Write;
 
 // A label by its number, from 0 on; a semicolon stands after each.
-fn write_label(labels: &[u8], number: u8) {
-    write(fields::entry_at(labels, b';', number as usize));
+fn write_label(out: &mut impl Write, labels: &[u8], number: u8) -> io::Result<()> {
+    write(out, fields::entry_at(labels, b';', number as usize))?;
+    Ok(())
 }
 
-fn refused(x: Refusal) {
-    write(b" refused ");
-    write_refusal(x);
+fn refused(out: &mut impl Write, x: Refusal) -> io::Result<()> {
+    write(out, b" refused ")?;
+    write_refusal(out, x)?;
+    Ok(())
 }
 
-fn write_bytes(first: u8, second: u8) {
-    write(b" ");
-    write_hex(first);
-    write(b" ");
-    write_hex(second);
+fn write_bytes(out: &mut impl Write, first: u8, second: u8) -> io::Result<()> {
+    write(out, b" ")?;
+    write_hex(out, first)?;
+    write(out, b" ")?;
+    write_hex(out, second)?;
+    Ok(())
 }
 
-fn write_step(v: i32) {
-    write(b" ");
-    write_signed(v);
+fn write_step(out: &mut impl Write, v: i32) -> io::Result<()> {
+    write(out, b" ")?;
+    write_signed(out, v)?;
+    Ok(())
 }
 
-pub fn spelling(labels: &[u8], k: u8, meaning: Meaning) {
-    write_label(labels, k);
+pub fn spelling(out: &mut impl Write, labels: &[u8], k: u8, meaning: Meaning) -> io::Result<()> {
+    write_label(out, labels, k)?;
     match pair::write(meaning) {
-        Spelling::Bytes(first, second) => write_bytes(first, second),
-        Spelling::Refused(x) => refused(x),
+        Spelling::Bytes(first, second) => write_bytes(out, first, second)?,
+        Spelling::Refused(x) => refused(out, x)?,
     }
-    write(b"\n");
+    write(out, b"\n")?;
+    Ok(())
 }
 
-pub fn half_step(labels: &[u8], k: u8, letter: Letter, accidental: Accidental, octave: u16) {
-    write_label(labels, k);
+pub fn half_step(
+    out: &mut impl Write,
+    labels: &[u8],
+    k: u8,
+    letter: Letter,
+    accidental: Accidental,
+    octave: u16,
+) -> io::Result<()> {
+    write_label(out, labels, k)?;
     match meaning::half_step(Pitch {
         letter,
         accidental,
         octave,
     }) {
-        HalfStep::Step(z) => write_step(z),
-        HalfStep::Refused(x) => refused(x),
+        HalfStep::Step(z) => write_step(out, z)?,
+        HalfStep::Refused(x) => refused(out, x)?,
     }
-    write(b"\n");
+    write(out, b"\n")?;
+    Ok(())
 }
 
 // A note of this pitch, a plain quarter.
-pub fn pitched(labels: &[u8], k: u8, letter: Letter, accidental: Accidental, octave: u16) {
+pub fn pitched(
+    out: &mut impl Write,
+    labels: &[u8],
+    k: u8,
+    letter: Letter,
+    accidental: Accidental,
+    octave: u16,
+) -> io::Result<()> {
     let tone = Tone::Sounds(Pitch {
         letter,
         accidental,
@@ -63,11 +85,18 @@ pub fn pitched(labels: &[u8], k: u8, letter: Letter, accidental: Accidental, oct
         tied: false,
         tone,
     };
-    spelling(labels, k, Meaning::Note(note));
+    spelling(out, labels, k, Meaning::Note(note))
 }
 
 // A note of this length, C natural of octave 4.
-pub fn sounding(labels: &[u8], k: u8, duration: Duration, shape: Shape, tied: bool) {
+pub fn sounding(
+    out: &mut impl Write,
+    labels: &[u8],
+    k: u8,
+    duration: Duration,
+    shape: Shape,
+    tied: bool,
+) -> io::Result<()> {
     let pitch = Pitch {
         letter: Letter::C,
         accidental: Accidental::Natural,
@@ -80,16 +109,22 @@ pub fn sounding(labels: &[u8], k: u8, duration: Duration, shape: Shape, tied: bo
         tied,
         tone,
     };
-    spelling(labels, k, Meaning::Note(note));
+    spelling(out, labels, k, Meaning::Note(note))
 }
 
 // An untied rest of this length.
-pub fn resting(labels: &[u8], k: u8, duration: Duration, shape: Shape) {
+pub fn resting(
+    out: &mut impl Write,
+    labels: &[u8],
+    k: u8,
+    duration: Duration,
+    shape: Shape,
+) -> io::Result<()> {
     let note = Note {
         duration,
         shape,
         tied: false,
         tone: Tone::Rest,
     };
-    spelling(labels, k, Meaning::Note(note));
+    spelling(out, labels, k, Meaning::Note(note))
 }

@@ -1,8 +1,7 @@
 // The decimal digits of a number in a lent list, each in its own cell from the last to the first.
 ghost use Rattle.std.specs.Prelude.{◌≡◌, ◌+◌, ◌≤◌, length};
-ghost use Rattle.io.specs.Digits.{last_digits};
 ghost use Rattle.fields.specs.Parts.{put};
-ghost use Rattle.printing.specs.Digits.{decimal_in, decimal};
+ghost use Rattle.printing.specs.Digits.{decimal_in, decimal, last_digits};
 
 // How many decimal digits a number has; of more than ten it counts ten.
 fn up_to_ten(n: u64) -> usize
@@ -45,7 +44,7 @@ pub fn digits_of(n: u64) -> usize
 // internal: the last k decimal digits of a number from a place on. Callers see that they fit.
 pub fn put_last(out: &mut [u8], at: usize, k: usize, n: u64)
     requires { at + k ≤ length out.old }
-    ensures { out.new ≡ put out.old at (last_digits 10 k n) }
+    ensures { out.new ≡ put out.old at (last_digits k n) }
 {
     let mut to = at + k;
     let mut rest = n;
@@ -54,4 +53,13 @@ pub fn put_last(out: &mut [u8], at: usize, k: usize, n: u64)
         out[to] = 48 + (rest % 10) as u8;
         rest /= 10;
     }
+}
+
+// internal: the decimal digits of a number, in the first cells of a list that is lent for them.
+pub fn decimal(n: u64, out: &mut [u8; 20]) -> &[u8]
+    ensures { result.now ≡ decimal n }
+{
+    let k = digits_of(n);
+    put_last(out, 0, k, n);
+    fields::part(out, 0, k)
 }

@@ -4,7 +4,7 @@ ghost use Rattle.std.specs.Prelude.{◌≡◌, ◌++◌};
 ghost use Rattle.printing.specs.Digits.{decimal, hex_digit, hex_digits, signed_digits};
 ghost use Rattle.printing.specs.Placing.{text_placed, after_text};
 
-use crate::digits::{digits_of, put_last};
+use crate::digits::{decimal, digits_of, put_last};
 
 // internal: a text, as much of it as has room.
 pub fn put(out: &mut [u8], at: usize, text: &[u8]) -> usize
@@ -27,8 +27,7 @@ fn put_fitting(out: &mut [u8], at: usize, n: u64) -> usize
     ensures out_after { out.new ≡ text_placed out.old at (decimal n) }
 {
     let mut digits = [0u8; 20];
-    let k = io::decimal(n, &mut digits);
-    put(out, at, &digits[..k])
+    put(out, at, decimal(n, &mut digits))
 }
 
 // internal: the decimal digits of a number. Where all have room, they are made in their place.

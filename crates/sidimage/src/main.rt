@@ -2,26 +2,32 @@
 // or the refusal's number and place.
 #![tactic(auto)]
 
-use libc::STDIN_FILENO;
 use printing::{write, write_refusal};
 use refusals::Refusal;
 use sid::Reading;
+use std::io;
+use std::io::Write;
 
-fn refuse(x: Refusal) {
-    write_refusal(x);
-    write(b"\n");
+fn refuse(out: &mut impl Write, x: Refusal) -> io::Result<()> {
+    write_refusal(out, x)?;
+    write(out, b"\n")?;
+    Ok(())
 }
 
-fn main() {
+fn report(out: &mut impl Write, file: &[u8]) -> io::Result<()> {
+    let mut memory = [0u8; 65536];
+    match sidload::load(file, &mut memory) {
+        Reading::Accepted(_) => {
+            write(out, &memory)?;
+            Ok(())
+        }
+        Reading::Refused(x) => refuse(out, x),
+    }
+}
+
+fn main(rt: HostRuntime) -> io::Result<()> {
     // longer than any accepted file, so that what is cut off changes no answer (docs/DECISIONS.md)
     let mut file = [0u8; 66000];
-    let mut memory = [0u8; 65536];
-    let n = io::read_full(STDIN_FILENO, &mut file);
-    let answer = sidload::load(&file[..n], &mut memory);
-    match answer {
-        Reading::Accepted(_) => {
-            write(&memory);
-        }
-        Reading::Refused(x) => refuse(x),
-    }
+    let n = files::read_full(&mut rt.stdin(), &mut file)?;
+    report(&mut rt.stdout(), &file[..n])
 }

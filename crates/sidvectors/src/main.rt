@@ -7,6 +7,8 @@ use files::Loaded;
 use printing::{write, write_after, write_refusal};
 use refusals::Refusal;
 use sid::{Header, Kind, Reading, SongSpeed};
+use std::io;
+use std::io::Write;
 use tune::Piece;
 
 // What a cell of memory holds before a load; no payload has this byte.
@@ -28,255 +30,281 @@ fn changed(memory: &[u8]) -> Cells {
     let mut first = 0;
     let mut count: usize = 0;
     let mut sum: usize = 0;
-    let mut i = memory.len();
-    while 0 < i {
-        i -= 1;
+    for i in (0..memory.len()).rev() {
         if memory[i] != EMPTY {
             first = i;
-            count = std::num::wrapping_add_usize(count, 1);
-            sum = std::num::wrapping_add_usize(sum, wide(memory[i]));
+            count = count.wrapping_add(1);
+            sum = sum.wrapping_add(wide(memory[i]));
         }
     }
     Cells { first, count, sum }
 }
 
-fn show_span(words: &[u8], span: Span) {
-    write_after(words, span.from as u64);
-    write_after(b" ", span.len as u64);
+fn show_span(out: &mut impl Write, words: &[u8], span: Span) -> io::Result<()> {
+    write_after(out, words, span.from as u64)?;
+    write_after(out, b" ", span.len as u64)?;
+    Ok(())
 }
 
-fn show_refusal(x: Refusal) {
-    write(b" refused ");
-    write_refusal(x);
+fn show_refusal(out: &mut impl Write, x: Refusal) -> io::Result<()> {
+    write(out, b" refused ")?;
+    write_refusal(out, x)?;
+    Ok(())
 }
 
-fn show_cells(memory: &[u8]) {
+fn show_cells(out: &mut impl Write, memory: &[u8]) -> io::Result<()> {
     let c = changed(memory);
-    write_after(b" cells ", c.first as u64);
-    write_after(b" ", c.count as u64);
-    write_after(b" ", c.sum as u64);
-    write(b"\n");
+    write_after(out, b" cells ", c.first as u64)?;
+    write_after(out, b" ", c.count as u64)?;
+    write_after(out, b" ", c.sum as u64)?;
+    write(out, b"\n")?;
+    Ok(())
 }
 
-fn show_kind(kind: Kind) {
+fn show_kind(out: &mut impl Write, kind: Kind) -> io::Result<()> {
     match kind {
         Kind::Psid => {
-            write(b" accepted PSID");
+            write(out, b" accepted PSID")?;
+            Ok(())
         }
         Kind::Rsid => {
-            write(b" accepted RSID");
+            write(out, b" accepted RSID")?;
+            Ok(())
         }
     }
 }
 
-fn show_player(h: Header) {
+fn show_player(out: &mut impl Write, h: Header) -> io::Result<()> {
     let kind = h.kind;
-    show_kind(kind);
-    write_after(b" version ", h.version as u64);
-    write_after(b" load ", h.load as u64);
-    write_after(b" init ", h.init as u64);
-    write_after(b" play ", h.play as u64);
-    write_after(b" songs ", h.songs as u64);
-    write_after(b" start ", h.start as u64);
-    write_after(b" speed ", h.speed as u64);
+    show_kind(out, kind)?;
+    write_after(out, b" version ", h.version as u64)?;
+    write_after(out, b" load ", h.load as u64)?;
+    write_after(out, b" init ", h.init as u64)?;
+    write_after(out, b" play ", h.play as u64)?;
+    write_after(out, b" songs ", h.songs as u64)?;
+    write_after(out, b" start ", h.start as u64)?;
+    write_after(out, b" speed ", h.speed as u64)?;
+    Ok(())
 }
 
-fn show_parts(h: Header) {
+fn show_parts(out: &mut impl Write, h: Header) -> io::Result<()> {
     let page = h.page as u64;
     let pages = h.pages as u64;
-    write_after(b" basic ", h.basic as u64);
-    write_after(b" clock ", h.clock as u64);
-    write_after(b" model ", h.model as u64);
-    write_after(b" pages ", page);
-    write_after(b" ", pages);
-    show_span(b" title ", h.title);
-    show_span(b" author ", h.author);
-    show_span(b" released ", h.released);
-    show_span(b" payload ", h.payload);
+    write_after(out, b" basic ", h.basic as u64)?;
+    write_after(out, b" clock ", h.clock as u64)?;
+    write_after(out, b" model ", h.model as u64)?;
+    write_after(out, b" pages ", page)?;
+    write_after(out, b" ", pages)?;
+    show_span(out, b" title ", h.title)?;
+    show_span(out, b" author ", h.author)?;
+    show_span(out, b" released ", h.released)?;
+    show_span(out, b" payload ", h.payload)
 }
 
-fn show_reading(answer: Reading) {
+fn show_reading(out: &mut impl Write, answer: Reading) -> io::Result<()> {
     match answer {
         Reading::Accepted(h) => {
-            show_player(h);
-            show_parts(h);
+            show_player(out, h)?;
+            show_parts(out, h)
         }
-        Reading::Refused(x) => show_refusal(x),
+        Reading::Refused(x) => show_refusal(out, x),
     }
 }
 
 // A line for a load into a memory that is not of 65,536 cells, or that is.
-fn load_line(name: &[u8], file: &[u8], memory: &mut [u8]) {
+fn load_line(out: &mut impl Write, name: &[u8], file: &[u8], memory: &mut [u8]) -> io::Result<()> {
     let answer = sidload::load(file, memory);
-    write(name);
-    write_after(b" memory ", memory.len() as u64);
+    write(out, name)?;
+    write_after(out, b" memory ", memory.len() as u64)?;
     match answer {
         Reading::Accepted(_) => {
-            write(b" loaded");
+            write(out, b" loaded")?;
         }
-        Reading::Refused(x) => show_refusal(x),
+        Reading::Refused(x) => show_refusal(out, x)?,
     }
-    show_cells(memory);
+    show_cells(out, memory)
 }
 
 // A song's speed bit, or the refusal's number.
-fn show_speed(words: &[u8], answer: SongSpeed) {
+fn show_speed(out: &mut impl Write, words: &[u8], answer: SongSpeed) -> io::Result<()> {
     match answer {
         SongSpeed::Bit(b) => {
-            write_after(words, b as u64);
+            write_after(out, words, b as u64)?;
+            Ok(())
         }
         SongSpeed::Refused(x) => {
-            write_after(words, x.number as u64);
+            write_after(out, words, x.number as u64)?;
+            Ok(())
         }
     }
 }
 
-fn show_song(file: &[u8], words: &[u8], song: u64) {
-    show_speed(words, sidspeed::speed_of_song(file, song));
+fn show_song(out: &mut impl Write, file: &[u8], words: &[u8], song: u64) -> io::Result<()> {
+    show_speed(out, words, sidspeed::speed_of_song(file, song))
 }
 
 // A line with the speed bits of songs, or the refusal's number.
-fn song_line(name: &[u8], file: &[u8], songs: u16) {
-    write(name);
-    show_song(file, b" song 0: ", 0);
-    show_song(file, b" 1: ", 1);
-    show_song(file, b" 2: ", 2);
-    show_song(file, b" 3: ", 3);
-    show_song(file, b" 31: ", 31);
-    show_song(file, b" 32: ", 32);
-    show_song(file, b" 33: ", 33);
-    show_song(file, b" last: ", songs as u64);
-    show_song(file, b" next: ", songs as u64 + 1);
-    show_song(file, b" greatest: ", u64::MAX);
-    write(b"\n");
+fn song_line(out: &mut impl Write, name: &[u8], file: &[u8], songs: u16) -> io::Result<()> {
+    write(out, name)?;
+    show_song(out, file, b" song 0: ", 0)?;
+    show_song(out, file, b" 1: ", 1)?;
+    show_song(out, file, b" 2: ", 2)?;
+    show_song(out, file, b" 3: ", 3)?;
+    show_song(out, file, b" 31: ", 31)?;
+    show_song(out, file, b" 32: ", 32)?;
+    show_song(out, file, b" 33: ", 33)?;
+    show_song(out, file, b" last: ", songs as u64)?;
+    show_song(out, file, b" next: ", songs as u64 + 1)?;
+    show_song(out, file, b" greatest: ", u64::MAX)?;
+    write(out, b"\n")?;
+    Ok(())
 }
 
-fn show_header_song(h: Header, words: &[u8], song: u64) {
-    show_speed(words, sid::song_speed(h, song));
+fn show_header_song(out: &mut impl Write, h: Header, words: &[u8], song: u64) -> io::Result<()> {
+    show_speed(out, words, sid::song_speed(h, song))
 }
 
 // The same line by the header in hand.
-fn header_line(name: &[u8], h: Header, songs: u16) {
-    write(name);
-    show_header_song(h, b" header 0: ", 0);
-    show_header_song(h, b" 1: ", 1);
-    show_header_song(h, b" 2: ", 2);
-    show_header_song(h, b" 3: ", 3);
-    show_header_song(h, b" 31: ", 31);
-    show_header_song(h, b" 32: ", 32);
-    show_header_song(h, b" 33: ", 33);
-    show_header_song(h, b" last: ", songs as u64);
-    show_header_song(h, b" next: ", songs as u64 + 1);
-    show_header_song(h, b" greatest: ", u64::MAX);
-    write(b"\n");
+fn header_line(out: &mut impl Write, name: &[u8], h: Header, songs: u16) -> io::Result<()> {
+    write(out, name)?;
+    show_header_song(out, h, b" header 0: ", 0)?;
+    show_header_song(out, h, b" 1: ", 1)?;
+    show_header_song(out, h, b" 2: ", 2)?;
+    show_header_song(out, h, b" 3: ", 3)?;
+    show_header_song(out, h, b" 31: ", 31)?;
+    show_header_song(out, h, b" 32: ", 32)?;
+    show_header_song(out, h, b" 33: ", 33)?;
+    show_header_song(out, h, b" last: ", songs as u64)?;
+    show_header_song(out, h, b" next: ", songs as u64 + 1)?;
+    show_header_song(out, h, b" greatest: ", u64::MAX)?;
+    write(out, b"\n")?;
+    Ok(())
 }
 
 // The end of a line with the parts of a file: the texts in brackets, and the payload's length.
-fn show_pieces(title: &[u8], author: &[u8], released: &[u8], payload: &[u8]) {
-    write(b" [");
-    write(title);
-    write(b"] [");
-    write(author);
-    write(b"] [");
-    write(released);
-    write(b"]");
-    write_after(b" payload ", payload.len() as u64);
-    write(b"\n");
+fn show_pieces(
+    out: &mut impl Write,
+    title: &[u8],
+    author: &[u8],
+    released: &[u8],
+    payload: &[u8],
+) -> io::Result<()> {
+    write(out, b" [")?;
+    write(out, title)?;
+    write(out, b"] [")?;
+    write(out, author)?;
+    write(out, b"] [")?;
+    write(out, released)?;
+    write(out, b"]")?;
+    write_after(out, b" payload ", payload.len() as u64)?;
+    write(out, b"\n")?;
+    Ok(())
 }
 
 // A line with the parts of a file, by the spans of its header.
-fn piece_line(name: &[u8], file: &[u8], h: Header) {
-    write(name);
-    write(b" pieces");
+fn piece_line(out: &mut impl Write, name: &[u8], file: &[u8], h: Header) -> io::Result<()> {
+    write(out, name)?;
+    write(out, b" pieces")?;
     show_pieces(
+        out,
         fields::span_part(file, h.title),
         fields::span_part(file, h.author),
         fields::span_part(file, h.released),
         fields::span_part(file, h.payload),
-    );
+    )
 }
 
 // A line with the parts of a tune, of a file's first n bytes and the header of the whole.
-fn tune_line(name: &[u8], file: &[u8], h: Header, n: usize) {
+fn tune_line(
+    out: &mut impl Write,
+    name: &[u8],
+    file: &[u8],
+    h: Header,
+    n: usize,
+) -> io::Result<()> {
     let cut = fields::part(file, 0, n);
     let title = tune::shown(cut, h, Piece::Title);
     let author = tune::shown(cut, h, Piece::Author);
     let released = tune::shown(cut, h, Piece::Released);
     let payload = tune::shown(cut, h, Piece::Payload);
-    write(name);
-    write_after(b" tune ", n as u64);
-    show_pieces(title, author, released, payload);
+    write(out, name)?;
+    write_after(out, b" tune ", n as u64)?;
+    show_pieces(out, title, author, released, payload)
 }
 
 // The parts of a file by its header, then those of its tune, whole and cut within the payload, the author and
 // the title, and before them.
-fn show_tunes(name: &[u8], file: &[u8], h: Header) {
-    piece_line(name, file, h);
-    tune_line(name, file, h, file.len());
-    tune_line(name, file, h, 128);
-    tune_line(name, file, h, 60);
-    tune_line(name, file, h, 24);
-    tune_line(name, file, h, 22);
+fn show_tunes(out: &mut impl Write, name: &[u8], file: &[u8], h: Header) -> io::Result<()> {
+    piece_line(out, name, file, h)?;
+    tune_line(out, name, file, h, file.len())?;
+    tune_line(out, name, file, h, 128)?;
+    tune_line(out, name, file, h, 60)?;
+    tune_line(out, name, file, h, 24)?;
+    tune_line(out, name, file, h, 22)
 }
 
 // The lines that only the first two files have: loads into memories of other sizes.
-fn report_more(name: &[u8], file: &[u8]) {
+fn report_more(out: &mut impl Write, name: &[u8], file: &[u8]) -> io::Result<()> {
     let mut none = [EMPTY; 0];
     let mut less = [EMPTY; 65535];
     let mut more = [EMPTY; 65537];
-    load_line(name, file, &mut none);
-    load_line(name, file, &mut less);
-    load_line(name, file, &mut more);
+    load_line(out, name, file, &mut none)?;
+    load_line(out, name, file, &mut less)?;
+    load_line(out, name, file, &mut more)
 }
 
 // A file's answers. Songs are asked for where there are several, and of a file of the first two that is
 // refused.
-fn report(name: &[u8], file: &[u8], first_two: bool) {
+fn report(out: &mut impl Write, name: &[u8], file: &[u8], first_two: bool) -> io::Result<()> {
     let mut memory = [EMPTY; 65536];
     let answer = sid::read(file);
-    write(name);
-    show_reading(answer);
-    write(b"\n");
-    load_line(name, file, &mut memory);
+    write(out, name)?;
+    show_reading(out, answer)?;
+    write(out, b"\n")?;
+    load_line(out, name, file, &mut memory)?;
     if first_two {
-        report_more(name, file);
+        report_more(out, name, file)?;
     }
     match answer {
         Reading::Accepted(h) => {
             let songs = h.songs;
             if 1 < songs {
-                song_line(name, file, songs);
-                header_line(name, h, songs);
+                song_line(out, name, file, songs)?;
+                header_line(out, name, h, songs)?;
             }
             if first_two {
-                show_tunes(name, file, h);
+                show_tunes(out, name, file, h)?;
             }
         }
         Reading::Refused(_) => {
             if first_two {
-                song_line(name, file, 1);
+                song_line(out, name, file, 1)?;
             }
         }
     }
+    Ok(())
 }
 
 // Reports the file that argument i names.
-fn report_argument(i: usize) {
+fn report_argument(rt: &HostRuntime, i: usize) -> io::Result<()> {
     let mut name = [0u8; 64];
     let mut file = [0u8; 66000];
-    let n = os::arg(i, &mut name);
-    match files::read_file(&name[..n], &mut file) {
-        Loaded::Bytes(len) => report(&name[..n], fields::part(&file, 0, len), i <= 2),
-        Loaded::NotOpened(_) => os::fail(&name[..n]),
-        Loaded::NotRead(_) => os::fail(&name[..n]),
+    let n = files::arg(rt, i, &mut name);
+    match files::read_file(rt, &name[..n], &mut file) {
+        Loaded::Bytes(len) => report(
+            &mut rt.stdout(),
+            &name[..n],
+            fields::part(&file, 0, len),
+            i <= 2,
+        ),
+        Loaded::NotOpened(error) => files::fail(rt, &name[..n], error),
+        Loaded::NotRead(error) => files::fail(rt, &name[..n], error),
     }
 }
 
-fn main() {
-    let count = os::arg_count();
-    let mut i = 1;
-    while i < count {
-        report_argument(i);
-        i += 1;
+fn main(rt: HostRuntime) -> io::Result<()> {
+    for i in 1..files::arg_count(&rt) {
+        report_argument(&rt, i)?;
     }
+    Ok(())
 }

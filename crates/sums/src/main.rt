@@ -2,13 +2,16 @@
 // the eight 64ths of 'Easy to get wrong'.
 #![tactic(auto)]
 
+use std::io;
+
 mod pairs;
 mod rsid;
 mod show;
 mod songs;
 
-fn main() {
-    pairs::show_sums();
-    rsid::show_sums();
-    songs::show_sums();
+fn main(rt: HostRuntime) -> io::Result<()> {
+    let mut out = rt.stdout();
+    pairs::show_sums(&mut out)?;
+    rsid::show_sums(&mut out)?;
+    songs::show_sums(&mut out)
 }

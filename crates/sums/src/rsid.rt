@@ -3,6 +3,8 @@
 use crate::show::{refused, write_bytes};
 use printing::write;
 use sid::Reading;
+use std::io;
+use std::io::Write;
 
 fn high(n: u16) -> u8 {
     (n / 256) as u8
@@ -34,31 +36,32 @@ fn file_of(init: u16, load: u16) -> [u8; 130] {
     file
 }
 
-fn write_address(words: &[u8], n: u16) {
-    write(words);
-    write_bytes(high(n), b"", low(n));
+fn write_address(out: &mut impl Write, words: &[u8], n: u16) -> io::Result<()> {
+    write(out, words)?;
+    write_bytes(out, high(n), b"", low(n))
 }
 
-fn show_file(init: u16, load: u16) {
+fn show_file(out: &mut impl Write, init: u16, load: u16) -> io::Result<()> {
     let file = file_of(init, load);
-    write_address(b"RSID load ", load);
-    write_address(b" init ", init);
-    write(b" ");
+    write_address(out, b"RSID load ", load)?;
+    write_address(out, b" init ", init)?;
+    write(out, b" ")?;
     match sid::read(&file) {
         Reading::Accepted(_) => {
-            write(b"passes");
+            write(out, b"passes")?;
         }
-        Reading::Refused(x) => refused(x),
+        Reading::Refused(x) => refused(out, x)?,
     }
-    write(b"\n");
+    write(out, b"\n")?;
+    Ok(())
 }
 
-pub fn show_sums() {
-    show_file(0x07E8, 0x1000);
-    show_file(0x9FFF, 0x1000);
-    show_file(0x07E7, 0x1000);
-    show_file(0xA000, 0x1000);
-    show_file(0, 0x07E8);
-    show_file(0, 0x9FFF);
-    show_file(0, 0xA000);
+pub fn show_sums(out: &mut impl Write) -> io::Result<()> {
+    show_file(out, 0x07E8, 0x1000)?;
+    show_file(out, 0x9FFF, 0x1000)?;
+    show_file(out, 0x07E7, 0x1000)?;
+    show_file(out, 0xA000, 0x1000)?;
+    show_file(out, 0, 0x07E8)?;
+    show_file(out, 0, 0x9FFF)?;
+    show_file(out, 0, 0xA000)
 }
