@@ -1,8 +1,7 @@
 -- shares_are   a first byte's shares times the tempo are its length
-use Rattle.std.specs.Prelude.{ℕ, ◌*◌, ◌/◌, ◌%◌, ◌≤◌, ◌<◌, ◌≡◌, cond, eqb, leb}
-use Rattle.std.proofs.Common.{arith, mul_comm, mul_assoc, leb→le}
+use Rattle.std.specs.Prelude.{ℕ, ◌*◌, ◌/◌, ◌%◌, ◌≡◌, eqb}
+use Rattle.std.proofs.Common.{arith, mul_comm, mul_assoc}
 use Rattle.logic.specs.Cases.{cases}
-use Rattle.logic.specs.Every.{every_at}
 use Rattle.note.specs.Reading.{shape_of, value_of}
 use Rattle.clock.specs.declared.Values.{Values}
 use Rattle.clock.specs.Lengths.{plain_length, shaped}

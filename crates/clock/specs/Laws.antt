@@ -3,7 +3,7 @@
 -- numerator, denominator    the fraction of a shape
 -- parts_of_whole, whole_of     what part a value is, and of which length
 -- never_dotted              no pair means a dotted or double dotted 64th
--- exact                     so no length of a note that a pair means drops a fraction
+-- That no length of a note that a pair means drops a fraction stands in proofs/Exact.antt.
 -- times_rise, jiffies_rise  exact times never fall, nor do jiffies
 -- same_time                 events of equal exact time have one jiffy, also of different voices
 -- eight_notes, eight-64ths   fractions are dropped of the sum, and not note by note
@@ -20,7 +20,7 @@ use Rattle.note.specs.Reading as Reading
 use Rattle.note.specs.Reading.{note_of}
 use Rattle.pair.specs.Pairs.{meaning_of}
 use Rattle.clock.specs.declared.Values.{Values}
-use Rattle.clock.specs.Lengths.{at_start, plain_length, shaped, note_length, length_of, values_after}
+use Rattle.clock.specs.Lengths.{at_start, plain_length, shaped, length_of, values_after}
 use Rattle.clock.specs.Times.{lengths, sum, time_of, jiffy_of}
 
 twelves : (q : Values) (d : Duration) → ((k : ℕ) × (plain_length q d ≡ 12 * k)) ⊎ (d ≡ SixtyFourth)
@@ -86,18 +86,6 @@ whole_of q UtilityDuration = 384 * q.utl
 whole_of q UtilityVoice = 384 * q.utv
 whole_of q AbsolutePitch = 0
 
-parts_exact : (q : Values) (d : Duration) → parts_of_whole d * plain_length q d ≡ whole_of q d
-parts_exact q Whole = omega arith
-parts_exact q Half = omega arith
-parts_exact q Quarter = omega arith
-parts_exact q Eighth = omega arith
-parts_exact q Sixteenth = omega arith
-parts_exact q ThirtySecond = omega arith
-parts_exact q SixtyFourth = omega arith
-parts_exact q UtilityDuration = omega arith
-parts_exact q UtilityVoice = omega arith
-parts_exact q AbsolutePitch = omega arith
-
 abbrev undotted : Shape → Bool
 undotted Plain = true
 undotted Dotted = false
@@ -116,21 +104,6 @@ never_dotted a h e = go (Reading.length_in_byte a).shape (rw e at (every_at read
     go Dotted t = absurd t
     go DoubleDotted t = absurd t
     go Triplet t = inr refl
-
--- 'Time is in 384ths of a jiffy: with tempo t a whole note is 384t, each next value half of that': whole
--- ones, since each length is the fraction that the paper names of the length that it names.
-pub exact : (q : Values) (a b : ℕ) → a < 256
-    → (denominator (note_of a b).shape * note_length q (note_of a b) ≡ numerator (note_of a b).shape * plain_length q (note_of a b).duration)
-    × (parts_of_whole (note_of a b).duration * plain_length q (note_of a b).duration ≡ whole_of q (note_of a b).duration)
-exact q a b h =
-    let d = (note_of a b).duration in
-    (go d (note_of a b).shape (never_dotted a h), parts_exact q d)
-  where
-    go : (d : Duration) (s : Shape) → (d ≡ SixtyFourth → (s ≡ Plain) ⊎ (s ≡ Triplet)) → denominator s * shaped s (plain_length q d) ≡ numerator s * plain_length q d
-    go d Plain k = refl
-    go d Dotted k = dotted_exact q d
-    go d DoubleDotted k = double_dotted_exact q d (λ e. let z : ◌≡◌ {A = ℕ} 0 1 = ⊎_elim (λ p. cc) (λ p. cc) (k e) in omega arith)
-    go d Triplet k = triplet_exact q d
 
 sums_rise : (xs : List ℕ) (i j : ℕ) → i ≤ j → sum (take i xs) ≤ sum (take j xs)
 unfolding sum

@@ -6,13 +6,9 @@
 -- shares          how many 384ths of tempo 1, by the first byte
 -- shares-low      how great they get
 -- That the product with the tempo is the length stands in proofs/Shares.antt.
-use Rattle.std.specs.Prelude.{ℕ, ◌*◌, ◌/◌, ◌%◌, ◌≤◌, ◌<◌, ◌≡◌, cond, eqb, leb}
-use Rattle.std.proofs.Common.{arith, mul_comm, mul_assoc, leb→le}
-use Rattle.logic.specs.Cases.{cases}
+use Rattle.std.specs.Prelude.{ℕ, ◌*◌, ◌/◌, ◌%◌, ◌≤◌, ◌<◌, cond, eqb, leb}
+use Rattle.std.proofs.Common.{leb→le}
 use Rattle.logic.specs.Every.{every_at}
-use Rattle.note.specs.Reading.{shape_of, value_of}
-use Rattle.clock.specs.declared.Values.{Values}
-use Rattle.clock.specs.Lengths.{plain_length, shaped}
 
 abbrev pub thirty_seconds : ℕ → ℕ
 thirty_seconds code =

@@ -1,7 +1,6 @@
 -- `clock::notes::thirty_seconds` meets its contract: a test over the codes.
 use Prim.Native.Nat.{◌/◌, ◌^◌}
 use mathlib.Core.Bool.{not, ◌||◌}
-use borrow.Author.Rules.{rules}
 use borrow.Author.Tests.{lt-ltb}
 use lib.Dec.{eqb, ltb, eqb→eq}
 use Rattle.logic.specs.Every.{every_at, implied}

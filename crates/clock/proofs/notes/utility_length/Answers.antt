@@ -1,7 +1,6 @@
 -- Utility duration and voice, by the arms of bits 5 and 7; two thirds of 384 are 256.
 use native.Mathlib.Omega.{arith}
 use borrow.Author.Tests.{ne_eqb}
-use borrow.Author.Rules.{rules}
 use Rattle.clock.proofs.notes.utility_length.Goals as goal
 
 pub returns-in-0-bit7 : goal.returns-in-0-bit7
