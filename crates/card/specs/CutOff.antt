@@ -6,7 +6,7 @@
 -- cut_sap        whether the bytes that a program holds may be only a part of a SAP file
 -- judged-held   where not, they are judged as the whole file
 -- held-long     where so, the whole file begins with `SAP` CR LF and has as many bytes as there is room for
--- kind-cut      the first bytes of any file have its kind, also those of a SAP file
+-- That they have the kind of the whole file, also those of a SAP file, stands in proofs/CutOff.antt.
 use Rattle.std.specs.Prelude.{ℕ, ◌≤◌, ◌<◌, ◌≡◌, Bool, true, false, ◌&&◌, List, leb, length, take}
 use Rattle.std.proofs.Common.{sym, ap, ◌∙◌, arith, length-take, length-take-le, get_or-take, take_all, leb-true, leb-false, le-leb}
 use Rattle.logic.specs.Cases.{cases}
@@ -22,7 +22,7 @@ magic-take : (f : List ℕ) (n : ℕ) → 4 ≤ n → be32 (take n f) 0 ≡ be32
 unfolding be32 be16
 magic-take f n h = rw (get_or-take n f 0 0 (omega arith), get_or-take n f 1 0 (omega arith), get_or-take n f 2 0 (omega arith), get_or-take n f 3 0 (omega arith))
 
-line-take : (f : List ℕ) (n : ℕ) → 5 ≤ n → first_line (take n f) ≡ first_line f
+pub line-take : (f : List ℕ) (n : ℕ) → 5 ≤ n → first_line (take n f) ≡ first_line f
 unfolding first_line
 line-take f n h =
     rw (
@@ -62,12 +62,3 @@ held-long f n h e =
     let p = both (leb n (length (take n f))) (first_line (take n f)) e in
     let all = leb-true n (length (take n f)) p.0 in
     (sym (line-take f n h) ∙ p.1, omega (arith, length-take n f))
-
--- The first n bytes of a file have the kind of the whole file, for n from 65,663 to its length, whatever it
--- begins with: a file so long that begins with `SAP` CR LF is no MUS song.
-pub kind-cut : (f : List ℕ) (n : ℕ) → 65663 ≤ n → n ≤ length f → file_kind (take n f) ≡ file_kind f
-kind-cut f n h k =
-    cases (first_line f)
-    (λ b. let size = length-take-le n f k in
-    kind-long (take n f) (line-take f n (omega arith) ∙ b) (omega arith) ∙ sym (kind-long f b (omega arith)))
-    (λ b. sym (kind-judged (take n f)) ∙ ap kind_of_judgement (judged-cut f n b h k) ∙ kind-judged f)

@@ -7,7 +7,7 @@
 --               first voice would be odd (23)
 -- accepts, is_accepted, some_accepts   whether a reader accepts, a judgement is of an accepted file, and one of
 --                                    the three readers accepts a file
--- judged-accepted   a file is judged an accepted one exactly when one of the readers accepts it
+-- That a file is judged an accepted one exactly when one of them accepts it stands in proofs/Accepted.antt.
 -- judged-once   two answers of one judgement are one answer
 -- by_head, by_head_lem, by_outcomes   the same by the tests 21 to 24 alone (`head_outcome`), as the code goes
 use Rattle.std.specs.Prelude.{ℕ, ◌+◌, ◌*◌, ◌<◌, ◌%◌, refl, Bool, true, false, cond, ◌&&◌, ◌||◌, List, eqb, leb}
@@ -49,7 +49,7 @@ use Rattle.card.specs.Judging as judging
 use Rattle.card.specs.Judging.{Judgement, judgement_of, as_tune, as_sap, as_song, judged}
 
 -- an accepted tune begins with PSID or RSID
-magic-right : (f : List ℕ) (h : Header) → sid_outcome f ≡ accepted h → eqb (be32 f 0) psid ≡ false → eqb (be32 f 0) rsid ≡ false → ⊥
+pub magic-right : (f : List ℕ) (h : Header) → sid_outcome f ≡ accepted h → eqb (be32 f 0) psid ≡ false → eqb (be32 f 0) rsid ≡ false → ⊥
 unfolding sid_tests fields_of
 magic-right f h e p r = false≢true (sym (rw (p, r) at (accepted_none f h e).1.0))
 
@@ -106,11 +106,11 @@ module _ (f : List ℕ) (s : Song) (e : mus_outcome f ≡ accepted s) (low : get
       let odd : ◌≡◌ {A = ℕ} 1 0 = subst (λ (n : ℕ). n % 2 ≡ 0) length even in
       omega (arith, odd)
 
-  no-psid : be32 f 0 ≡ psid → ⊥
+  pub no-psid : be32 f 0 ≡ psid → ⊥
   unfolding be32 be16
   no-psid q = no-letters (low_half (get_or f 0 0 * 256 + get_or f 1 0) (get_or f 2 0 * 256 + get_or f 3 0) 0x5053 0x4944 (omega (arith, low, high)) (lit< tt) q)
 
-  no-rsid : be32 f 0 ≡ rsid → ⊥
+  pub no-rsid : be32 f 0 ≡ rsid → ⊥
   unfolding be32 be16
   no-rsid q = no-letters (low_half (get_or f 0 0 * 256 + get_or f 1 0) (get_or f 2 0 * 256 + get_or f 3 0) 0x5253 0x4944 (omega (arith, low, high)) (lit< tt) q)
 
@@ -137,20 +137,20 @@ abbrev pub some_accepts : List ℕ → Bool
 some_accepts f = accepts (sid_outcome f) || accepts (sap_outcome f) || accepts (mus_outcome f)
 
 -- an outcome that is not accepted with any value
-never : {A : Type 0} (o : Outcome A) → ((a : A) → o ≡ accepted a → ⊥) → accepts o ≡ false
+pub never : {A : Type 0} (o : Outcome A) → ((a : A) → o ≡ accepted a → ⊥) → accepts o ≡ false
 never (accepted a) h = absurd (h a refl)
 never (refused n p) h = refl
 
-tune-accepted : (k : Kind) (o : Outcome Header) → is_accepted (as_tune k o) ≡ accepts o || false || false
+pub tune-accepted : (k : Kind) (o : Outcome Header) → is_accepted (as_tune k o) ≡ accepts o || false || false
 tune-accepted k (accepted h) = refl
 tune-accepted k (refused n p) = refl
 
-sap-accepted : (o : Outcome SapHeader) (m : Outcome Song) → is_accepted (as_sap o m) ≡ accepts o || accepts m
+pub sap-accepted : (o : Outcome SapHeader) (m : Outcome Song) → is_accepted (as_sap o m) ≡ accepts o || accepts m
 sap-accepted (accepted h) m = refl
 sap-accepted (refused n p) (accepted s) = refl
 sap-accepted (refused n p) (refused k q) = refl
 
-song-accepted : (m : Outcome Song) → is_accepted (as_song m) ≡ accepts m
+pub song-accepted : (m : Outcome Song) → is_accepted (as_song m) ≡ accepts m
 song-accepted (accepted s) = refl
 song-accepted (refused n p) = go (leb n 24)
   where
@@ -159,27 +159,13 @@ song-accepted (refused n p) = go (leb n 24)
     go false = refl
 
 -- a file that begins with PSID or RSID is accepted neither as SAP nor as MUS
-alone : (f : List ℕ) (magic : ℕ) → (first_line f ≡ true → eqb (be32 f 0) magic ≡ false) → ((s : Song) → mus_outcome f ≡ accepted s → be32 f 0 ≡ magic → ⊥)
+pub alone : (f : List ℕ) (magic : ℕ) → (first_line f ≡ true → eqb (be32 f 0) magic ≡ false) → ((s : Song) → mus_outcome f ≡ accepted s → be32 f 0 ≡ magic → ⊥)
     → eqb (be32 f 0) magic ≡ true
     → (accepts (sap_outcome f) ≡ false) × (accepts (mus_outcome f) ≡ false)
 alone f magic line song e = (
   never (sap_outcome f) (λ h a. false≢true (sym (line (accepted-first-line f h a)) ∙ e)),
   never (mus_outcome f) (λ s a. song s a (eqb-true (be32 f 0) magic e)),
 )
-
--- A file whose cells 2 and 3 are bytes is judged an accepted one exactly when one of the three readers
--- accepts it: no file that some reader accepts is called refused.
-pub judged-accepted : (f : List ℕ) → get_or f 2 0 < 256 → get_or f 3 0 < 256 → is_accepted (judged f) ≡ some_accepts f
-judged-accepted f low high =
-    cases (eqb (be32 f 0) psid)
-    (λ p. let no = alone f psid (λ b. (no-tune f b).0) (λ s e. no-psid f s e low high) p in
-    rw (p, no.0, no.1) (tune-accepted Psid (sid_outcome f)))
-    (λ p. cases (eqb (be32 f 0) rsid)
-    (λ r. let no = alone f rsid (λ b. (no-tune f b).1) (λ s e. no-rsid f s e low high) r in
-    rw (p, r, no.0, no.1) (tune-accepted Rsid (sid_outcome f)))
-    (λ r. let no = never (sid_outcome f) (λ h e. magic-right f h e p r) in
-    cases (first_line f) (λ b. rw (p, r, b, no) (sap-accepted (sap_outcome f) (mus_outcome f)))
-    (λ b. rw (p, r, b, no, never (sap_outcome f) (λ h e. false≢true (sym b ∙ accepted-first-line f h e))) (song-accepted (mus_outcome f)))))
 
 -- the answer that a judgement is of
 abbrev answer_of : Judgement → Judged

@@ -12,7 +12,8 @@ use Rattle.sapput.specs.Putting.{blocks_put}
 use Rattle.sapheader.specs.declared.Header.{Header}
 use Rattle.sap.specs.Answers.{sap_outcome}
 use Rattle.sapload.specs.Loading.{sap_load_outcome, sap_memory_after}
-use Rattle.sapload.specs.Laws.{size-refused, size-read, accepted-first, accepted-whole, memory_loaded, memory_refused}
+use Rattle.sapload.specs.Laws.{size-refused, size-read, accepted-first, accepted-whole, memory_refused}
+use Rattle.sapload.proofs.Memory.{memory_loaded}
 
 module _ (f m : List ℕ) where
   pub wrong_size : (length m ≡ 65536 → ⊥) → (refused 40 0 ≡ sap_load_outcome f (length m)) × (m ≡ sap_memory_after f m)

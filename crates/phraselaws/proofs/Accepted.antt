@@ -28,7 +28,7 @@ use Rattle.mus.specs.Song.{voice_in, song_with, song_in, song_by, mus_outcome}
 use Rattle.mus.specs.Acceptance.{found_none, then_given}
 use Rattle.phraselaws.specs.Before.{meaning_before, pairs_before, sixteen, Without, WithoutSixteen, AreBytes}
 use Rattle.events.specs.Listing.{listing_by, listing}
-use Rattle.phraselaws.specs.Files.{song_as_before, listing_as_before}
+use Rattle.phraselaws.proofs.Files.{song_as_before, listing_as_before}
 
 -- a pair that the earlier 27 lets pass is neither of the two
 pair_without : (a b : ℕ) (last : Bool) → None (pair_tests (kind_of (meaning_before a b)) last) → sixteen a b ≡ false

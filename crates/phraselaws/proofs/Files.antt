@@ -33,7 +33,7 @@ use Rattle.mus.specs.Asked.{song_voice, asked_by, voice_asked, bytes_of}
 use Rattle.mus.specs.AskedLaws.{asked-accepted, voice-bytes}
 use Rattle.events.specs.Listing.{caller_tests, played_by, window_of, filled_by, listing_by, listing}
 use Rattle.phraselaws.specs.Before.{pairs_before, Without, WithoutSixteen, AreBytes}
-use Rattle.phraselaws.specs.Pairs.{means_as_before}
+use Rattle.phraselaws.proofs.Pairs.{means_as_before}
 
 take-bytes : (n : ℕ) (f : List ℕ) → AreBytes f → AreBytes (take n f)
 unfolding AreBytes

@@ -1,0 +1,3 @@
+pub mod Pairs
+pub mod Files
+pub mod Accepted
