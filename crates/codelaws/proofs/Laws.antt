@@ -7,8 +7,10 @@ use Rattle.pairlaws.specs.Statements.{HasPair}
 use Rattle.pairlaws.proofs.Laws.{reading_and_writing}
 use Rattle.decoding.specs.Decoding.{decoded}
 use Rattle.codelaws.specs.Statements.{Coded, CodingAndDecoding}
-use Rattle.codelaws.proofs.Refused.{PairRefused, pair-refused}
-use Rattle.codelaws.proofs.Decoding.{Decodes, decodes}
+use Rattle.codelaws.proofs.Refused.{PairRefused}
+use Rattle.codelaws.proofs.RefusedPairs.{pair-refused}
+use Rattle.codelaws.proofs.Decoding.{Decodes}
+use Rattle.codelaws.proofs.Decoded.{decodes}
 use Rattle.codelaws.proofs.Coding.{coded}
 
 written-coded : (m : Meaning) → HasPair m → Coded m

@@ -29,7 +29,7 @@ use Rattle.note.specs.Reading.{tone_of, note_of}
 use Rattle.note.proofs.Back.{written-note_reads}
 use Rattle.pair.specs.Pairs.{meaning_of}
 use Rattle.pair.specs.Preferred.{preferred}
-use Rattle.pairlaws.specs.HalfSteps.{byte_tables, step_range}
+use Rattle.pairlaws.proofs.HalfSteps.{byte_tables, step_range}
 use Rattle.pairlaws.proofs.Laws.{reading_and_writing}
 use Rattle.codes.specs.Coding.{code_of}
 use Rattle.answers.specs.Answers.{packed}

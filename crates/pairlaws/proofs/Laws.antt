@@ -14,7 +14,8 @@ use Rattle.pair.specs.Preferred.{preferred}
 use Rattle.pairlaws.specs.Statements.{Means, HasPair, ReadingAndWriting}
 use Rattle.pairlaws.proofs.ValueKinds.{ReadsBack}
 use Rattle.pairlaws.proofs.Written.{reads_back}
-use Rattle.pairlaws.proofs.Read.{WrittenAs, written_as_lem}
+use Rattle.pairlaws.proofs.Read.{WrittenAs}
+use Rattle.pairlaws.proofs.ReadWritten.{written_as_lem}
 
 module _ (m : Meaning) where
   written_reads : (a b : ℕ) → spelling_of m ≡ pair a b → Means m a b

@@ -1,7 +1,10 @@
+pub mod HalfSteps
 pub mod ValueKinds
+pub mod ValuesBack
 pub mod FirstBytes
 pub mod JoinedBack
 pub mod SignedBack
 pub mod Written
 pub mod Read
+pub mod ReadWritten
 pub mod Laws

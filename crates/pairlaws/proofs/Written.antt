@@ -26,8 +26,8 @@ use Rattle.commandtable.specs.Codes.{DCY, RUP, CAL, DEF, ATK, SUS, LFO, RDN, WAV
 use Rattle.command.specs.Others.{tempo_of}
 use Rattle.spelling.specs.Counts.{pair, no_bytes, destination, tempo}
 use Rattle.pair.specs.Pairs.{spelling_of}
-use Rattle.pairlaws.proofs.ValueKinds.{ReadsBack, at_value, counted_back, phrase-back, single-back}
-use Rattle.pairlaws.proofs.ValueKinds.{joined_back, signed_back}
+use Rattle.pairlaws.proofs.ValueKinds.{ReadsBack, at_value}
+use Rattle.pairlaws.proofs.ValuesBack.{counted_back, phrase-back, single-back, joined_back, signed_back}
 use Rattle.pairlaws.proofs.JoinedBack.{pw_written, ms_written, por_written, jif-back, dtn-back}
 use Rattle.pairlaws.proofs.SignedBack.{byte-up, byte_down, sca-up, sca-down, tps-back, rtp-back}
 
