@@ -1,7 +1,7 @@
 /* turftangle.h: Turftangle for C and C++. Reads PSID/RSID tunes, Sidplayer MUS songs and Atari SAP
  * songs.
  *
- * Link with target/staticlib/libturftangle.a, which `rt staticlib turftangle` makes.
+ * Link with target/staticlib/libturftangle.a, which `tools/archive` makes.
  * docs/INTERFACE.md says more, with programs that use each call.
  *
  * Lists. A list is a pointer and then its length in elements. A pointer is never NULL, not even

@@ -16,7 +16,7 @@ fn main() {
     if !archive.is_file() {
         eprintln!(
             "turftangle: there is no {}.\n\
-             Run `rt staticlib turftangle` in the repository's top folder, \
+             Run `tools/archive` in the repository's top folder, \
              or set TURFTANGLE_LIB_DIR to the folder that holds libturftangle.a.",
             archive.display()
         );

@@ -123,7 +123,7 @@ fn file_name(block: &Block) -> &str {
     name
 }
 
-/// A C block, then its commands, then what these print. A command of `rt` is left out: the archive
+/// A C block, then its commands, then what these print. `tools/archive` is left out: the archive
 /// is there when the tests run.
 fn run_c_block(document: &str, block: &Block, commands: &Block, printed: &Block) {
     let place = format!("{document} line {}", block.line);
@@ -135,7 +135,7 @@ fn run_c_block(document: &str, block: &Block, commands: &Block, printed: &Block)
     compile(&folder, "c99", name);
     compile(&folder, "c++11", name);
     let lines: Vec<&str> = commands.text.lines().collect();
-    let script = lines.into_iter().filter(|line| !line.starts_with("rt "));
+    let script = lines.into_iter().filter(|line| *line != "tools/archive");
     let script = script.collect::<Vec<_>>().join("\n");
     let output = run(&folder, "sh", &["-c", &script]);
     assert_eq!(String::from_utf8_lossy(&output.stderr), "", "{place}");

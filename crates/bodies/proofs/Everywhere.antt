@@ -15,7 +15,6 @@ use Rattle.logic.specs.Cases.{cases}
 use Rattle.meaning.specs.declared.Meaning.{Meaning}
 use Rattle.refusals.specs.Numbers.{Outcome}
 use Rattle.kind.specs.declared.Kind.{Kind}
-use Rattle.kind.specs.declared.Kind.TheVariants as Kind
 use Rattle.kind.specs.Kinds.{kind_of}
 use Rattle.pair.specs.Pairs.{meaning_of}
 use Rattle.bodies.specs.Voice.{pairs_by, pairs}

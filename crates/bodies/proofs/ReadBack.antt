@@ -9,7 +9,6 @@ use mathlib.Core.List.{List, [], ◌∷◌, ◌++◌, append_assoc, append-nil}
 use Rattle.meaning.specs.declared.Meaning.{Meaning}
 use Rattle.refusals.specs.Numbers.{Outcome}
 use Rattle.kind.specs.declared.Kind.{Kind}
-use Rattle.kind.specs.declared.Kind.TheVariants as Kind
 use Rattle.kind.specs.Kinds.{kind_of}
 use Rattle.bodies.specs.Bodies.{Event, Closer, by_tal, by_end, by_stop, Body, done, event, repeat, phrase, call, inner, outer, with_pair, event_at, bodies, body_of, Piece, one, HED, TAL, DEF, END, CAL, piece, pieces, written_out}
 use Rattle.bodies.specs.Order.{Shut, Sound}

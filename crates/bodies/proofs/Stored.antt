@@ -13,7 +13,6 @@ use native.Mathlib.Omega.{arith}
 use lib.ListN.{length, drop, get_or, drop_of_length-le}
 use lib.Seq.{drop-cons, drop-nil}
 use Rattle.kind.specs.declared.Kind.{Kind}
-use Rattle.kind.specs.declared.Kind.TheVariants as Kind
 use Rattle.kind.specs.Kinds.{kind_of}
 use Rattle.kind.proofs.PlainEvents as plain
 use Rattle.bodies.specs.Voice.{pairs_by, pairs, pair_at, plain_at}

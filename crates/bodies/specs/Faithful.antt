@@ -9,11 +9,9 @@
 -- EndsInHlt             events end in HLT, the last of n stored pairs, and no other event is HLT
 use Rattle.std.specs.Prelude.{ℕ, ◌+◌, ◌≡◌, List, [], ◌∷◌, ◌++◌}
 use Rattle.meaning.specs.declared.Meaning.{Meaning}
-use Rattle.meaning.specs.declared.Meaning.TheVariants as Meaning
 use Rattle.refusals.specs.Numbers.{Outcome}
 use Rattle.refusals.specs.Numbers.Outcome.{accepted, refused}
 use Rattle.kind.specs.declared.Kind.{Kind}
-use Rattle.kind.specs.declared.Kind.TheVariants as Kind
 use Rattle.kind.specs.Kinds.{kind_of}
 use Rattle.bodies.specs.Bodies.{Event, Body, done, event, repeat, phrase, call}
 use Rattle.bodies.specs.Playing.{Interpretation, interpret}

@@ -9,7 +9,6 @@ use Rattle.meaning.specs.declared.Meaning.TheVariants.{Note, Dcy, Rup, Cal, Bmp,
 use Rattle.refusals.specs.Numbers.{Outcome}
 use Rattle.refusals.specs.Numbers.Outcome.{accepted, refused}
 use Rattle.kind.specs.declared.Kind.{Kind}
-use Rattle.kind.specs.declared.Kind.TheVariants as Kind
 
 abbrev pub kind_of : Outcome Meaning → Kind
 kind_of (refused number place) = Kind.Bad number

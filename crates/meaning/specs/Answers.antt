@@ -7,11 +7,8 @@
 use Rattle.std.specs.Prelude.{ℕ, ℤ}
 use Rattle.meaning.specs.declared.Meaning.{Meaning}
 use Rattle.meaning.specs.declared.Reading.{Reading}
-use Rattle.meaning.specs.declared.Reading.TheVariants as Reading
 use Rattle.meaning.specs.declared.Spelling.{Spelling}
-use Rattle.meaning.specs.declared.Spelling.TheVariants as Spelling
 use Rattle.meaning.specs.declared.HalfStep.{HalfStep}
-use Rattle.meaning.specs.declared.HalfStep.TheVariants as HalfStep
 use Rattle.refusals.specs.Numbers.{Outcome}
 use Rattle.refusals.specs.Numbers.Outcome.{accepted, refused}
 

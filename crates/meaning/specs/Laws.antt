@@ -13,11 +13,8 @@ use Rattle.meaning.specs.declared.Pitch.{Pitch}
 use Rattle.refusals.specs.Laws.{refused-once}
 use Rattle.meaning.specs.declared.Meaning.{Meaning}
 use Rattle.meaning.specs.declared.Reading.{Reading}
-use Rattle.meaning.specs.declared.Reading.TheVariants as Reading
 use Rattle.meaning.specs.declared.Spelling.{Spelling}
-use Rattle.meaning.specs.declared.Spelling.TheVariants as Spelling
 use Rattle.meaning.specs.declared.HalfStep.{HalfStep}
-use Rattle.meaning.specs.declared.HalfStep.TheVariants as HalfStep
 use Rattle.meaning.specs.Answers.{Bytes, outcome_of_meaning, outcome_of_bytes, outcome_of_step}
 use Rattle.meaning.specs.Pitches.{in_tables, has_accidental, letter_step, raised_by}
 

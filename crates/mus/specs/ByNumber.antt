@@ -46,10 +46,10 @@ unfolding pairs_tests
 pairs_late [] = tt
 pairs_late (m ∷ ms) = ((lit< tt, (lit< tt, (lit< tt, tt))), pairs_late ms)
 
-nestings_late : (o : Nesting) (v : List (Outcome Meaning)) → EachPair (nestings_tests o v)
+nestings_late : (v : List (Outcome Meaning)) (o : Nesting) → EachPair (nestings_tests o v)
 unfolding nestings_tests
-nestings_late o [] = tt
-nestings_late o (m ∷ ms) = ((lit< tt, (lit< tt, tt)), nestings_late _ ms)
+nestings_late [] o = tt
+nestings_late (m ∷ ms) o = ((lit< tt, (lit< tt, tt)), nestings_late ms _)
 
 found_late : (i : ℕ) (tss : List (List Test)) → EachPair tss → (n j : ℕ) → first_at i tss ≡ At n j → Late n
 unfolding first_at
@@ -77,7 +77,7 @@ unfolding voice_by pairs_finding structure_finding
 voice-above offset bs =
     let v = pairs bs in
     or_found-above offset (pairs_finding v) (or_found offset (structure_finding v) (limited offset (length bs) (count_outcome v))) (found_late 0 (pairs_tests v) (pairs_late v))
-    (or_found-above offset (structure_finding v) (limited offset (length bs) (count_outcome v)) (found_late 0 (nestings_tests start v) (nestings_late start v))
+    (or_found-above offset (structure_finding v) (limited offset (length bs) (count_outcome v)) (found_late 0 (nestings_tests start v) (nestings_late v start))
     (limited-above offset (length bs) v))
 
 -- an outcome that comes after another

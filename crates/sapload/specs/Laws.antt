@@ -20,7 +20,7 @@ use Rattle.sapblocks.specs.declared.Block.{Block}
 use Rattle.sapblocks.specs.Blocks.{are_whole, listed}
 use Rattle.sapblocks.specs.Laws.{Bytes, GoodBlocks, blocks-good, whole-listed}
 use Rattle.sapput.specs.Putting.{blocks_put, covers, covered, byte_for}
-use Rattle.sapput.specs.Laws.{length-blocks, put_uncovered, put-later}
+use Rattle.sapput.proofs.Put.{length-blocks, put_uncovered, put-later}
 use Rattle.saptext.specs.Text.{text_in}
 use Rattle.sapheader.specs.declared.Header.{Header}
 use Rattle.sapheader.specs.Header.{header_for}

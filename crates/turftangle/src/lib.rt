@@ -1,5 +1,5 @@
-// The library for C and Rust: twenty functions on numbers and lists, as docs/INTERFACE.md fixes them.
-// Each answers for every file and every number; none has a requires.
+// The library as twenty functions on numbers and lists, as docs/INTERFACE.md fixes them; the static library
+// turftangle_c hands them to C and Rust. Each answers for every file and every number; none has a requires.
 #![tactic(auto)]
 
 ghost use Rattle.std.specs.Prelude.{◌≡◌, length};
@@ -29,16 +29,14 @@ ghost use Rattle.card.specs.Kinds.{file_kind};
 ghost use Rattle.reasons.specs.Phrases.{phrase_at};
 
 // What a file is: 1 PSID, 2 RSID, 3 MUS, 4 SAP, 0 none of them; accepted or not.
-#[unsafe(no_mangle)]
-pub extern "C" fn tt_kind(file: &[u8]) -> u64
+pub fn tt_kind(file: &[u8]) -> u64
     ensures { result ≡ file_kind file.now }
 {
     cardcalls::kind(file)
 }
 
 // The phrase of a refusal's number, as much of it as fits; how long it is, 0 for a number without one.
-#[unsafe(no_mangle)]
-pub extern "C" fn tt_reason(number: u32, out: &mut [u8]) -> u64
+pub fn tt_reason(number: u32, out: &mut [u8]) -> u64
     ensures answer { result ≡ length (phrase_at number) }
     ensures cells { out.new ≡ front (phrase_at number) out.old }
 {
@@ -46,16 +44,14 @@ pub extern "C" fn tt_reason(number: u32, out: &mut [u8]) -> u64
 }
 
 // Reads a PSID or RSID file: 0, or the first of 1 to 13 that applies.
-#[unsafe(no_mangle)]
-pub extern "C" fn tt_sid_read(file: &[u8]) -> u64
+pub fn tt_sid_read(file: &[u8]) -> u64
     ensures { result ≡ packed no_value (sid_outcome file.now) }
 {
     sidcalls::read(file)
 }
 
 // The header's fields of a PSID or RSID file, as many as fit; how many there are, 21.
-#[unsafe(no_mangle)]
-pub extern "C" fn tt_sid_fields(file: &[u8], out: &mut [u32]) -> u64
+pub fn tt_sid_fields(file: &[u8], out: &mut [u32]) -> u64
     ensures answer { result ≡ packed (λ h. length (header_numbers h)) (sid_outcome file.now) }
     ensures cells { out.new ≡ list_after header_numbers (sid_outcome file.now) out.old }
 {
@@ -63,8 +59,7 @@ pub extern "C" fn tt_sid_fields(file: &[u8], out: &mut [u32]) -> u64
 }
 
 // Loads a PSID or RSID file into the 65,536 cells of memory: 0, or 40, or the file's refusal.
-#[unsafe(no_mangle)]
-pub extern "C" fn tt_sid_load(file: &[u8], memory: &mut [u8]) -> u64
+pub fn tt_sid_load(file: &[u8], memory: &mut [u8]) -> u64
     ensures answer { result ≡ packed no_value (load_outcome file.now (length memory.old)) }
     ensures cells { memory.new ≡ memory_after file.now memory.old }
 {
@@ -72,24 +67,21 @@ pub extern "C" fn tt_sid_load(file: &[u8], memory: &mut [u8]) -> u64
 }
 
 // The speed bit of a song of a PSID or RSID file, counted from 1: 0 or 1, the file's refusal, or 44.
-#[unsafe(no_mangle)]
-pub extern "C" fn tt_sid_speed(file: &[u8], song: u32) -> u64
+pub fn tt_sid_speed(file: &[u8], song: u32) -> u64
     ensures { result ≡ packed (λ bit. bit) (speed_outcome file.now song) }
 {
     sidcalls::speed(file, song)
 }
 
 // Reads a SAP file: 0, or the first of 51 to 54 that applies.
-#[unsafe(no_mangle)]
-pub extern "C" fn tt_sap_read(file: &[u8]) -> u64
+pub fn tt_sap_read(file: &[u8]) -> u64
     ensures { result ≡ packed no_value (sap_outcome file.now) }
 {
     sapcalls::read(file)
 }
 
 // The header's fields of a SAP file, as many as fit; how many there are, 21.
-#[unsafe(no_mangle)]
-pub extern "C" fn tt_sap_fields(file: &[u8], out: &mut [u32]) -> u64
+pub fn tt_sap_fields(file: &[u8], out: &mut [u32]) -> u64
     ensures answer { result ≡ packed (λ h. length (sap_numbers h)) (sap_outcome file.now) }
     ensures cells { out.new ≡ list_after sap_numbers (sap_outcome file.now) out.old }
 {
@@ -97,8 +89,7 @@ pub extern "C" fn tt_sap_fields(file: &[u8], out: &mut [u32]) -> u64
 }
 
 // Loads a SAP file into the 65,536 cells of memory: 0, or 40, or the file's refusal.
-#[unsafe(no_mangle)]
-pub extern "C" fn tt_sap_load(file: &[u8], memory: &mut [u8]) -> u64
+pub fn tt_sap_load(file: &[u8], memory: &mut [u8]) -> u64
     ensures answer { result ≡ packed no_value (sap_load_outcome file.now (length memory.old)) }
     ensures cells { memory.new ≡ sap_memory_after file.now memory.old }
 {
@@ -107,8 +98,7 @@ pub extern "C" fn tt_sap_load(file: &[u8], memory: &mut [u8]) -> u64
 
 // The time of a song of a SAP file, counted from 0: 2 × milliseconds, plus 1 where LOOP follows;
 // 4,294,967,295 where the file does not state it; the file's refusal, or 44.
-#[unsafe(no_mangle)]
-pub extern "C" fn tt_sap_time(file: &[u8], song: u32) -> u64
+pub fn tt_sap_time(file: &[u8], song: u32) -> u64
     ensures { result ≡ packed time_number (time_outcome file.now song) }
 {
     sapasked::time(file, song)
@@ -116,8 +106,7 @@ pub extern "C" fn tt_sap_time(file: &[u8], song: u32) -> u64
 
 // A block of a SAP file, counted from 0: 3, with as many of start, end and the offset of its first data byte
 // as fit; 0 where there is no such block; or the file's refusal.
-#[unsafe(no_mangle)]
-pub extern "C" fn tt_sap_block(file: &[u8], number: u32, out: &mut [u32]) -> u64
+pub fn tt_sap_block(file: &[u8], number: u32, out: &mut [u32]) -> u64
     ensures answer { result ≡ packed (λ b. length (block_numbers b)) (block_outcome file.now number) }
     ensures cells { out.new ≡ list_after block_numbers (block_outcome file.now number) out.old }
 {
@@ -125,8 +114,7 @@ pub extern "C" fn tt_sap_block(file: &[u8], number: u32, out: &mut [u32]) -> u64
 }
 
 // Accepts a MUS file: 12, with as many of the voices' numbers as fit, or the first of 21 to 33 that applies.
-#[unsafe(no_mangle)]
-pub extern "C" fn tt_mus_accept(file: &[u8], out: &mut [u32]) -> u64
+pub fn tt_mus_accept(file: &[u8], out: &mut [u32]) -> u64
     ensures answer { result ≡ packed (λ s. length (song_numbers s)) (mus_outcome file.now) }
     ensures cells { out.new ≡ list_after song_numbers (mus_outcome file.now) out.old }
 {
@@ -135,8 +123,7 @@ pub extern "C" fn tt_mus_accept(file: &[u8], out: &mut [u32]) -> u64
 
 // Lists the events of a voice of a MUS file from event number first on: how many cells of each list are
 // filled, or 41, 42, or the file's refusal.
-#[unsafe(no_mangle)]
-pub extern "C" fn tt_mus_list(
+pub fn tt_mus_list(
     file: &[u8],
     voice: u32,
     first: u64,
@@ -151,8 +138,7 @@ pub extern "C" fn tt_mus_list(
 }
 
 // The load address of a MUS file, or the first of 21 to 33 that applies.
-#[unsafe(no_mangle)]
-pub extern "C" fn tt_mus_load(file: &[u8]) -> u64
+pub fn tt_mus_load(file: &[u8]) -> u64
     ensures { result ≡ packed (λ s. s.load) (mus_outcome file.now) }
 {
     musparts::load(file)
@@ -160,8 +146,7 @@ pub extern "C" fn tt_mus_load(file: &[u8]) -> u64
 
 // Where a text line of a MUS file lies, 1 to 5: 2, with as many of offset and length as fit; 0 for any other
 // line; or the first of 21 to 33 that applies.
-#[unsafe(no_mangle)]
-pub extern "C" fn tt_mus_line(file: &[u8], line: u32, out: &mut [u32]) -> u64
+pub fn tt_mus_line(file: &[u8], line: u32, out: &mut [u32]) -> u64
     ensures answer { result ≡ packed (λ l. length (line_numbers l)) (line_asked file.now line) }
     ensures cells { out.new ≡ list_after line_numbers (line_asked file.now line) out.old }
 {
@@ -170,8 +155,7 @@ pub extern "C" fn tt_mus_line(file: &[u8], line: u32, out: &mut [u32]) -> u64
 
 // Where the voices of a MUS file lie: 6, with as many of their offsets and pairs as fit, or the first of 21
 // to 24 that applies.
-#[unsafe(no_mangle)]
-pub extern "C" fn tt_mus_voices(file: &[u8], out: &mut [u32]) -> u64
+pub fn tt_mus_voices(file: &[u8], out: &mut [u32]) -> u64
     ensures answer { result ≡ packed (λ v. length (place_numbers v)) (head_outcome file.now) }
     ensures cells { out.new ≡ list_after place_numbers (head_outcome file.now) out.old }
 {
@@ -180,8 +164,7 @@ pub extern "C" fn tt_mus_voices(file: &[u8], out: &mut [u32]) -> u64
 
 // How long a voice of a MUS file lasts: 1, with the exact time of its HLT in 384ths of a jiffy in the first
 // cell if there is one; or 41 for any other voice than 1 to 3, then the first of 21 to 33 that applies.
-#[unsafe(no_mangle)]
-pub extern "C" fn tt_mus_length(file: &[u8], voice: u32, out: &mut [u64]) -> u64
+pub fn tt_mus_length(file: &[u8], voice: u32, out: &mut [u64]) -> u64
     ensures answer { result ≡ packed (λ t. length (time_numbers t)) (length_asked file.now voice) }
     ensures cells { out.new ≡ list_after time_numbers (length_asked file.now voice) out.old }
 {
@@ -189,24 +172,21 @@ pub extern "C" fn tt_mus_length(file: &[u8], voice: u32, out: &mut [u64]) -> u64
 }
 
 // Reads a pair of a MUS voice: the code of its meaning, or 27 or 28.
-#[unsafe(no_mangle)]
-pub extern "C" fn tt_pair_read(first: u8, second: u8) -> u64
+pub fn tt_pair_read(first: u8, second: u8) -> u64
     ensures { result ≡ packed code_of (meaning_of first second) }
 {
     paircalls::read(first, second)
 }
 
 // Writes a meaning by its code: first × 256 + second, or 43.
-#[unsafe(no_mangle)]
-pub extern "C" fn tt_pair_write(code: u32) -> u64
+pub fn tt_pair_write(code: u32) -> u64
     ensures { result ≡ packed bytes_number (written code) }
 {
     paircalls::write(code)
 }
 
 // The half-step of a note by its code: the half-step + 1, 0 to 97, or 43.
-#[unsafe(no_mangle)]
-pub extern "C" fn tt_half_step(code: u32) -> u64
+pub fn tt_half_step(code: u32) -> u64
     ensures { result ≡ packed (λ n. n) (half_step_outcome code) }
 {
     paircalls::half_step(code)

@@ -1,6 +1,5 @@
 -- `bodies::kind_at` meets its contract.
 use Prim.Native.Nat.{ℕ, ◌+◌, ◌*◌, ◌<◌}
-use borrow.Author.Rules.{rules}
 use mathlib.Core.Path.{◌≡◌, subst, sym}
 use mathlib.Core.List.{List}
 use lib.ListN.{get_or}

@@ -1,5 +1,4 @@
 -- `bodies::part_at` meets its contract.
-use borrow.Author.Rules.{rules}
 use mathlib.Core.Path.{sym, subst, ◌∙◌}
 use native.Mathlib.Omega.{arith}
 use Rattle.kind.specs.Kinds.{Numbered}

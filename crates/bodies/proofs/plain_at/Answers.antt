@@ -1,5 +1,4 @@
 -- `bodies::plain_at` meets its contract.
-use borrow.Author.Rules.{rules}
 use Rattle.bodies.specs.Voice.{plain_at}
 use Rattle.bodies.proofs.plain_at.Goals as goal
 

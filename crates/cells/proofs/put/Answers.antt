@@ -1,5 +1,4 @@
 -- `cells::put` meets its contract.
-use borrow.Author.Rules.{rules}
 use borrow.Author.Tests.{ne_eqb}
 use mathlib.Core.Path.{refl}
 use Rattle.cells.proofs.put.Goals as goal

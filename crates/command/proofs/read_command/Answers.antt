@@ -1,5 +1,4 @@
 use borrow.Author.Tests.{ne_eqb}
-use borrow.Author.Rules.{rules}
 use Rattle.command.proofs.read_command.Goals as goal
 
 pub returns-then-first-eq1 : goal.returns-then-first-eq1

@@ -1,4 +1,3 @@
-use borrow.Author.Rules.{rules}
 use Rattle.commandsigns.proofs.out_of_range.Goals as goal
 
 pub returns : goal.returns

@@ -1,5 +1,4 @@
 use borrow.Author.Tests.{ne_eqb, lt-ltb}
-use borrow.Author.Rules.{rules}
 use Rattle.kind.proofs.is_plain.Goals as goal
 
 pub returns-then-first-eq0 : goal.returns-then-first-eq0

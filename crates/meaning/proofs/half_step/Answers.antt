@@ -1,6 +1,5 @@
 use mathlib.Core.Path.{◌∙◌, sym}
 use native.Mathlib.Omega.{arith}
-use borrow.Author.Rules.{rules}
 use Rattle.signed.specs.Laws.{kept}
 use Rattle.meaning.specs.Laws.{octave_low, letter_low, raised_low}
 use Rattle.meaning.proofs.half_step.Goals as goal

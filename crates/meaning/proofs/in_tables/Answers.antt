@@ -1,4 +1,3 @@
-use borrow.Author.Rules.{rules}
 use Rattle.meaning.proofs.in_tables.Goals as goal
 
 pub returns : goal.returns

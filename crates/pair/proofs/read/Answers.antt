@@ -1,5 +1,4 @@
 use borrow.Author.Tests.{ne_eqb}
-use borrow.Author.Rules.{rules}
 use Rattle.pair.proofs.read.Goals as goal
 
 pub returns-then-first-eq0 : goal.returns-then-first-eq0

@@ -1,6 +1,5 @@
 -- `payload_of` meets its contract, by whether the data begin with an address. Assumes nothing.
 use borrow.Author.Tests.{eq-eqb, ne_eqb}
-use borrow.Author.Rules.{rules}
 use Rattle.sidheader.specs.Payload.{payload_of}
 use Rattle.sidheader.proofs.payload_of.Goals as goal
 

@@ -1,5 +1,4 @@
 -- `read_fields` meets its contract: each field is what its read ensures. Assumes nothing.
-use borrow.Author.Rules.{rules}
 use Rattle.sidheader.specs.Fields.{fields_of}
 use Rattle.sidheader.proofs.read_fields.Goals as goal
 

@@ -1,5 +1,4 @@
 use borrow.Author.Tests.{le-leb, lt-leb}
-use borrow.Author.Rules.{rules}
 use Rattle.spelling.proofs.alone.Goals as goal
 
 pub returns-then-v-most : goal.returns-then-v-most

@@ -1,5 +1,4 @@
 use borrow.Author.Tests.{ne_eqb}
-use borrow.Author.Rules.{rules}
 use Rattle.spelling.proofs.destination.Goals as goal
 
 pub returns-in_default : goal.returns-in_default

@@ -1,7 +1,6 @@
 use Prim.Native.Nat.{◌/◌}
 use native.Mathlib.Omega.{arith}
 use borrow.Author.Tests.{le-leb, lt-leb}
-use borrow.Author.Rules.{rules}
 use Rattle.spelling.proofs.Steps.{stepped}
 use Rattle.spelling.proofs.joined.Goals as goal
 

@@ -1,4 +1,3 @@
-use borrow.Author.Rules.{rules}
 use Rattle.spelling.proofs.none.Goals as goal
 
 pub returns : goal.returns

@@ -1,4 +1,3 @@
-use borrow.Author.Rules.{rules}
 use Rattle.spelling.proofs.only_yes.Goals as goal
 
 pub returns-then-set : goal.returns-then-set

@@ -1,5 +1,4 @@
 use borrow.Author.Tests.{le-leb, lt-leb}
-use borrow.Author.Rules.{rules}
 use Rattle.spelling.proofs.phrase.Goals as goal
 
 pub returns-then-v-le15 : goal.returns-then-v-le15

@@ -1,4 +1,3 @@
-
 use Rattle.spelling.proofs.switched.Goals as goal
 
 pub returns-then-set : goal.returns-then-set

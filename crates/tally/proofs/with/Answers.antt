@@ -1,5 +1,4 @@
 -- `tally::with` meets its contract.
-use borrow.Author.Rules.{rules}
 use Rattle.tally.specs.Sums.{join}
 use Rattle.tally.proofs.Sums.{same_counts}
 use Rattle.tally.proofs.with.Goals as goal

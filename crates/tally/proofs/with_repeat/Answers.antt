@@ -1,5 +1,4 @@
 -- `tally::with_repeat` meets its contract.
-use borrow.Author.Rules.{rules}
 use Prim.Native.Nat.{◌+◌}
 use native.Mathlib.Omega.{arith}
 use Rattle.tally.proofs.Sums.{product}

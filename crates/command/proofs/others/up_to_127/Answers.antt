@@ -1,5 +1,4 @@
 use borrow.Author.Tests.{le-leb, lt-leb}
-use borrow.Author.Rules.{rules}
 use Rattle.command.proofs.others.up_to_127.Goals as goal
 
 pub returns-then-n-le127 : goal.returns-then-n-le127

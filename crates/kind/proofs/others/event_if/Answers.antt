@@ -1,4 +1,3 @@
-
 use Rattle.kind.proofs.others.event_if.Goals as goal
 
 pub returns-then-within : goal.returns-then-within

@@ -1,4 +1,3 @@
-
 use Rattle.kind.proofs.seconds.event_unless.Goals as goal
 
 pub returns-then-unassigned : goal.returns-then-unassigned

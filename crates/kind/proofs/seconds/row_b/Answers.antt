@@ -1,5 +1,4 @@
 use borrow.Author.Tests.{le-leb, lt-leb}
-use borrow.Author.Rules.{rules}
 use Rattle.kind.proofs.seconds.row_b.Goals as goal
 
 pub returns-then-second-ge128 : goal.returns-then-second-ge128

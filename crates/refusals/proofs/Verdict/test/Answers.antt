@@ -1,5 +1,4 @@
 -- `Verdict::test` meets its contract: each arm is a case of `tested`. Assumes nothing.
-use borrow.Author.Rules.{rules}
 use Rattle.refusals.proofs.Verdict.test.Goals as goal
 
 pub returns-in-Failed : goal.returns-in-Failed

@@ -1,6 +1,5 @@
 use mathlib.Core.Path.{◌∙◌, sym}
 use mir.Facts.{to_z-of_z}
-use borrow.Author.Rules.{rules}
 use Rattle.spelling.proofs.signs.jif.Goals as goal
 
 pub returns-in-Out : goal.returns-in-Out

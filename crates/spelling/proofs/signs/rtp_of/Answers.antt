@@ -1,5 +1,4 @@
 use borrow.Author.Tests.{lt-ltb, le-ltb}
-use borrow.Author.Rules.{rules}
 use Rattle.spelling.proofs.signs.rtp_of.Goals as goal
 
 pub returns-then-size-gt47 : goal.returns-then-size-gt47

@@ -1,5 +1,4 @@
 use borrow.Author.Tests.{le-leb, lt-leb}
-use borrow.Author.Rules.{rules}
 use Rattle.spelling.proofs.signs.slot_in.Goals as goal
 
 pub returns-then-size-below : goal.returns-then-size-below

@@ -1,5 +1,4 @@
 use borrow.Author.Tests.{lt-ltb, le-ltb}
-use borrow.Author.Rules.{rules}
 use Rattle.spelling.proofs.signs.tps_of.Goals as goal
 
 pub returns-then-size-gt95 : goal.returns-then-size-gt95

@@ -11,8 +11,7 @@ use Rattle.bodies.specs.Voice.{bytes_at, pair_at}
 use Rattle.walk.specs.declared.turn.Clock.{Clock}
 use Rattle.walk.specs.declared.turn.Turn.{Turn}
 use Rattle.walk.specs.Turns.{turn_of}
-use Rattle.walk.proofs.turn.turn_at.Statement.{statement}
-use Rattle.walk.proofs.turn.turn_at.Tie as tie
+use Rattle.walk.proofs.turn.turn_at.Goals as goal
 
 turned : (bs : List ℕ) (base at : ℕ) (before : Clock) (pair : Bytes) (n : ℕ) (values : Values) → pair ≡ bytes_at bs at
     → n ≡ length_of before.values (meaning_of pair.first pair.second) → values ≡ values_after before.values (meaning_of pair.first pair.second)
@@ -20,22 +19,7 @@ turned : (bs : List ℕ) (base at : ℕ) (before : Clock) (pair : Bytes) (n : �
 unfolding pair_at
 turned bs base at before pair n values p l v = rw (l, v, p) refl
 
-returns : tie.Need-returns
+pub returns : goal.returns
 returns c =
-    let args = c.before.before.before.before.before.before.args in
-    turned args.voice.now args.base args.at args.before _ _ _ c.before.before.before.before.bytes-at.ensures c.before.before.before.length.ensures c.values-after.ensures
-
-pub turn-at-spec : {M : Type 1} → statement M
-turn-at-spec =
-    tie.close
-    (tie.spec
-    (λ c κs. search rules)
-    (λ c κs. search rules)
-    (λ c. search rules)
-    (λ c. search rules)
-    (λ c. search rules)
-    (λ c. search rules)
-    (λ c. search rules)
-    (λ c. search rules)
-    (λ c κs. search rules)
-    returns)
+    let args = c.args in
+    turned args.voice.now args.base args.at args.before _ _ _ c.bytes_at-pair.ensures c.length-length.ensures c.values_after.ensures
