@@ -41,7 +41,8 @@ use Rattle.mus.specs.declared.Song.{Song}
 use Rattle.mus.specs.Song.{mus_outcome}
 use Rattle.mus.specs.Acceptance.{accepted-clear}
 use Rattle.mus.specs.Laws.{head-refused}
-use Rattle.mus.specs.ByNumber.{Above, head-above}
+use Rattle.mus.specs.ByNumber.{Above}
+use Rattle.mus.proofs.ByNumber.{head-above}
 use Rattle.card.specs.declared.Judged.{Judged}
 use Rattle.card.specs.declared.Judged.TheVariants as answer
 use Rattle.card.specs.Judging as judging

@@ -1,2 +1,4 @@
 pub mod Outcomes
 pub mod Accepted
+pub mod Asked
+pub mod ByNumber

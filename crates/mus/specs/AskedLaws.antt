@@ -3,8 +3,8 @@
 -- number-first, file-next   41 by the number, then the outcome of the file
 -- Asked, asked-accepted     any other answer is the voice of that number, of an accepted file
 -- voice-bytes               a voice's bytes are those that the container gives it
--- in_song, asked_in_song    each voice of a song, and the voice that is asked for, is as acceptance has
---                           reported it (InSong)
+-- in_song                   each voice of a song is as acceptance has reported it (InSong); the voice that is
+--                           asked for too: proofs/Asked.antt
 use Rattle.std.specs.Prelude.{ℕ, zero, suc, ◌≤◌, ◌≡◌, refl, true, false, ◌||◌, List, [], ◌∷◌, eqb, ltb, length, take, drop}
 use Rattle.std.proofs.Common.{sym, ap, subst, arith, length-take, length-drop}
 use Rattle.logic.specs.Cases.{cases}
@@ -116,7 +116,3 @@ in_song f s n e =
     (cases (eqb n 1) (λ a. rw a (span_in f (layout_of f).voice1 c.0.voice1 short (voice1-fits f k)))
     (λ a. cases (eqb n 2) (λ b. rw (a, b) (span_in f (layout_of f).voice2 c.0.voice2 short (voice2-fits f k)))
     (λ b. rw (a, b) (span_in f (layout_of f).voice3 c.0.voice3 short (voice3-fits f k)))))
-
--- So is the voice that is answered to a caller who names it.
-pub asked_in_song : (f : List ℕ) (n : ℕ) (v : Voice) → voice_asked f n ≡ accepted v → InSong f v
-asked_in_song f n v e = let a = asked-accepted f n v e in subst (InSong f) a.voice (in_song f a.song n a.file)

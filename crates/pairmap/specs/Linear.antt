@@ -17,7 +17,8 @@ use Rattle.pair.specs.Pairs.{meaning_of}
 use Rattle.clock.specs.declared.Values.{Values}
 use Rattle.clock.specs.Timing.{Timing, lasts, sets_tempo, sets_utl, sets_utv, no_time, timing_of}
 use Rattle.clock.specs.Lengths.{plain_length, shaped, length_of, set_by, values_after}
-use Rattle.clock.specs.Shares.{shares, shares_are}
+use Rattle.clock.specs.Shares.{shares}
+use Rattle.clock.proofs.Shares.{shares_are}
 use Rattle.clock.specs.Settings.{setting_of, timing_command, length-command}
 use Rattle.timemap.specs.declared.TimeMap.{TimeMap}
 use Rattle.timemap.specs.Maps.{left, length_by, values_by}

@@ -28,7 +28,7 @@ use Rattle.mus.specs.declared.Song.{Song}
 use Rattle.mus.specs.Voices.{voice_by}
 use Rattle.mus.specs.Song.{voice_in, song_in, song_by, mus_outcome}
 use Rattle.mus.specs.Laws.{container-refused}
-use Rattle.mus.specs.ByNumber.{low-number}
+use Rattle.mus.proofs.ByNumber.{low-number}
 use Rattle.mus.specs.Asked.{song_voice, asked_by, voice_asked, bytes_of}
 use Rattle.mus.specs.AskedLaws.{asked-accepted, voice-bytes}
 use Rattle.events.specs.Listing.{caller_tests, played_by, window_of, filled_by, listing_by, listing}

@@ -2,7 +2,7 @@
 use borrow.Author.Rules.{rules}
 use mathlib.Core.Path.{sym, ap, ◌∙◌}
 use Rattle.mus.specs.Voices.{outcome_of_voice}
-use Rattle.mus.specs.AskedLaws.{asked_in_song}
+use Rattle.mus.proofs.Asked.{asked_in_song}
 use Rattle.events.proofs.Answers.{voice-refused, lengths-refused, voice-answered}
 use Rattle.events.proofs.list.Goals as goal
 

@@ -6,12 +6,11 @@ use Rattle.timemap.proofs.Bounds.{product}
 use Rattle.timemap.proofs.length.Goals as goal
 
 pub added-tempo-requires : goal.added-tempo-requires
-added-tempo-requires c =
-    (
-      omega (arith, c.requires.sized.fixed),
-      omega
-          (arith, product c.args.a.tempos c.args.q.tempo c.requires.sized.tempos (omega arith)),
-    )
+added-tempo-requires c = (
+  omega (arith, c.requires.sized.fixed),
+  omega
+      (arith, product c.args.a.tempos c.args.q.tempo c.requires.sized.tempos (omega arith)),
+)
 
 pub added-utl-requires : goal.added-utl-requires
 added-utl-requires c =

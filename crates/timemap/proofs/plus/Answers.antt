@@ -8,12 +8,11 @@ added-requires c =
     (omega (arith, c.requires.0.sized.fixed), many c.args.n c.args.b.fixed c.requires.2 (omega (arith, c.requires.1.fixed)))
 
 pub added-requires-2 : goal.added-requires-2
-added-requires-2 c =
-    (
-      omega (arith, c.requires.0.sized.tempos),
-      many c.args.n c.args.b.tempos c.requires.2
-          (omega (arith, c.requires.1.tempos)),
-    )
+added-requires-2 c = (
+  omega (arith, c.requires.0.sized.tempos),
+  many c.args.n c.args.b.tempos c.requires.2
+      (omega (arith, c.requires.1.tempos)),
+)
 
 pub added-requires-3 : goal.added-requires-3
 added-requires-3 c =

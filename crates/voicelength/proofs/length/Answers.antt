@@ -2,7 +2,7 @@
 use borrow.Author.Rules.{rules}
 use mathlib.Core.Path.{sym, ap, ◌∙◌}
 use Rattle.mus.specs.Voices.{outcome_of_voice}
-use Rattle.mus.specs.AskedLaws.{asked_in_song}
+use Rattle.mus.proofs.Asked.{asked_in_song}
 use Rattle.voicelength.specs.Length.{length_asked}
 use Rattle.voicelength.proofs.length.Goals as goal
 

@@ -8,7 +8,7 @@ use Rattle.walk.proofs.Listings.{ListingSoFar, listing_start, listing-end, listi
 use Rattle.walk.proofs.list_voice.Given as goal
 
 abbrev pub invariant-loop-cursor : goal.invariant-loop-cursor
-invariant-loop-cursor l = 
+invariant-loop-cursor l =
     ListingSoFar l.voice l.base l.first l.count l.initial.offsets l.initial.jiffies l.offsets l.jiffies l.frames l.starts l.place l.now l.cursor l.left
 
 abbrev pub decreases-loop-cursor : goal.decreases-loop-cursor

@@ -6,7 +6,8 @@ use native.Mathlib.Nat.{mul-le-mul}
 use mir.Facts.{Fits-below}
 use borrow.Author.Tests.{ne_eqb}
 use borrow.Author.Rules.{rules}
-use Rattle.clock.specs.Shares.{shares-low, shares_are}
+use Rattle.clock.specs.Shares.{shares-low}
+use Rattle.clock.proofs.Shares.{shares_are}
 use Rattle.clock.proofs.notes.note_length.Goals as goal
 
 pub returns-then-first-eq0 : goal.returns-then-first-eq0

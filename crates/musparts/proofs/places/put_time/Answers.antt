@@ -8,18 +8,14 @@ use borrow.Author.Rules.{rules}
 use lib.ListN.{length, set}
 use Rattle.fields.specs.Parts.{front}
 use Rattle.musparts.specs.Lists.{time_numbers}
-use Rattle.musparts.proofs.places.put_time.Statement.{statement}
-use Rattle.musparts.proofs.places.put_time.Tie as tie
+use Rattle.musparts.proofs.places.put_time.Goals as goal
 
 set_first : (t : ℕ) (cells : List ℕ) → 0 < length cells → set cells 0 t ≡ front (time_numbers t) cells
 set_first t [] h = absurd (not-suc-le-zero h)
 set_first t (c ∷ cells) h = let one : min 1 (suc (length cells)) ≡ 1 = omega arith in rw one
 
-returns : tie.Need-returns
-returns c = set_first c.before.args.t c.before.args.out.now c.if1.true
+pub returns-then-out-gt0 : goal.returns-then-out-gt0
+returns-then-out-gt0 c = set_first c.args.t c.args.out.now c.if-out-gt0.true
 
-returns-2 : tie.Need-returns-2
-returns-2 c = let none : min 1 (length c.before.args.out.now) ≡ 0 = omega (arith, c.if1.false) in rw none
-
-pub put-time-spec : {M : Type 1} → statement M
-put-time-spec = tie.close (tie.spec (λ c. search rules) (λ c. search rules) returns returns-2)
+pub returns-else-out-gt0 : goal.returns-else-out-gt0
+returns-else-out-gt0 c = let none : min 1 (length c.args.out.now) ≡ 0 = omega (arith, c.if-out-gt0.false) in rw none

@@ -1,0 +1,6 @@
+-- `card::is_cut_sap` meets its contract: by what the first bytes are.
+use borrow.Author.Rules.{rules}
+use Rattle.card.proofs.is_cut_sap.Goals as goal
+
+pub returns : goal.returns
+returns c = rw c.begins.ensures
