@@ -4,35 +4,29 @@
 -- end_of           where what follows them begins
 -- both_time        two lines are both of TIME
 -- line_of          the bytes of the line of a tag by its number; none where there is no such line
+-- exchange        where the steps of two lines may be exchanged, so may the lines
+-- nth_line        what the line of a tag by its number states is what its bytes say, but for the place
 -- as_is, exchanged lines with two neighbours among them, and the same lines with the two exchanged
 -- end-exchanged   what follows the lines begins where it did
 -- count-exchanged, bad-exchanged, again-exchanged, lines-exchanged   52 is the same
--- line-exchanged  the line of each tag is the same
--- nth_exchanged   so the value of each tag and the time of each song are the same
--- against-exchanged   so 53 is the same
--- header-exchanged    so the header is the same but for where texts stand
-use Prim.Native.Nat.{ℕ, zero, suc, ◌+◌, ◌<◌}
-use Rattle.std.specs.Prelude.{◌≡◌, refl, Bool, true, false, ◌&&◌, ◌||◌, length, eqb}
-use Rattle.std.proofs.Common.{sym, subst, ◌∙◌, arith, eqb-true}
+-- That the line and the value of each tag are the same stands in proofs/Exchange.antt, that 53 and the header
+-- are in proofs/Header.antt.
+use Prim.Native.Nat.{ℕ, zero, suc, ◌+◌}
+use Rattle.std.specs.Prelude.{◌≡◌, refl, Bool, true, false, ◌&&◌, ◌||◌, length}
+use Rattle.std.proofs.Common.{sym, ◌∙◌, arith}
 use Rattle.std.proofs.Math.Path.{ap}
-use Rattle.std.proofs.lemmas.Bool.{false≢true}
 use mathlib.Core.List.{List, [], ◌∷◌, ◌++◌}
 use Rattle.logic.specs.Cases.{cases}
-use Rattle.logic.specs.Truth.{both, neither_right}
 use Rattle.characters.specs.Characters.{stands}
 use Rattle.saptags.specs.declared.Tag.{Tag}
 use Rattle.saptags.specs.declared.Tag.TheVariants as tag
-use Rattle.saptags.specs.Tags.{index_of, tag_at}
-use Rattle.saptags.specs.Laws.{index-once}
+use Rattle.saptags.specs.Tags.{tag_at}
 use Rattle.saplines.specs.declared.Line.{Line}
 use Rattle.saplines.specs.declared.Line.TheVariants.{Bad, Good}
 use Rattle.saplines.specs.Lines.{line_at}
 use Rattle.saptext.specs.Text.{StoredLine}
-use Rattle.saptext.specs.Stated.{entry_of, is_bad, is_of, tagged, one_more, count_of, any_bad, once_tags, any_twice, again, bad_lines, stated_by, nth_of, stated}
-use Rattle.saptext.proofs.Named.{twice-again}
-use Rattle.saprules.specs.Against.{against}
-use Rattle.sapheader.specs.Header.{header_for}
-use Rattle.saplaws.specs.Unplaced.{unplaced, without_places, against-alike, header-alike}
+use Rattle.saptext.specs.Stated.{entry_of, is_bad, is_of, tagged, one_more, count_of, any_bad, once_tags, any_twice, again, bad_lines, stated_by, nth_of}
+use Rattle.saplaws.specs.Unplaced.{unplaced}
 
 abbrev pub placed : ℕ → List (List ℕ) → List StoredLine
 placed at [] = []
@@ -68,8 +62,8 @@ module _ {A : Type 0} (f : List StoredLine → A) (step : List ℕ → A → A)
       → f (placed at (x ∷ y ∷ ls)) ≡ step x (step y (f (placed (at + length x + 2 + length y + 2) ls)))
   two at x y ls = one at x (y ∷ ls) ∙ ap (step x) (one (at + length x + 2) y ls)
 
-  -- where the steps of two lines may be exchanged, so may the lines
-  exchange : (x y : List ℕ) (after : List (List ℕ)) → ((a : A) → step x (step y a) ≡ step y (step x a))
+  -- Where the steps of two lines may be exchanged, so may the lines.
+  pub exchange : (x y : List ℕ) (after : List (List ℕ)) → ((a : A) → step x (step y a) ≡ step y (step x a))
       → (at : ℕ) (before : List (List ℕ)) → f (placed at (before ++ x ∷ y ∷ after)) ≡ f (placed at (before ++ y ∷ x ∷ after))
   exchange x y after swap at [] =
       two at x y after
@@ -80,7 +74,7 @@ module _ {A : Type 0} (f : List StoredLine → A) (step : List ℕ → A → A)
       ∙ ap (step l) (exchange x y after swap (at + length l + 2) ls)
       ∙ sym (one at l (ls ++ y ∷ x ∷ after))
 
--- the steps of counting, of a test, and of choosing a line by its number
+-- the steps of counting and of a test
 swap-count : (a b : Bool) (n : ℕ) → one_more a (one_more b n) ≡ one_more b (one_more a n)
 swap-count true b n = cases b (λ e. rw e) (λ e. rw e)
 swap-count false b n = refl
@@ -88,15 +82,6 @@ swap-count false b n = refl
 swap_or : (a b c : Bool) → a || (b || c) ≡ b || (a || c)
 swap_or true b c = cases b (λ e. rw e) (λ e. rw e)
 swap_or false b c = refl
-
-swap-picked : (a b : Bool) → a && b ≡ false → (n : ℕ) (x y : List ℕ) (g : ℕ → List ℕ)
-    → picked a n x (λ k. picked b k y g) ≡ picked b n y (λ k. picked a k x g)
-swap-picked true true e n x y g = absurd (false≢true (sym e))
-swap-picked true false e zero x y g = refl
-swap-picked true false e (suc n) x y g = refl
-swap-picked false true e zero x y g = refl
-swap-picked false true e (suc n) x y g = refl
-swap-picked false false e n x y g = refl
 
 -- A line that has no bytes is bad.
 pub entry_none : entry_of [] ≡ Bad
@@ -149,56 +134,3 @@ module _ (x y : List ℕ) (after : List (List ℕ)) where
     -- so the lines are bad or they are not: 52 is the same.
     pub lines-exchanged : bad_lines (as_is at before) ≡ bad_lines (exchanged at before)
     lines-exchanged = rw (bad-exchanged at before, again-exchanged)
-
-  -- two lines of a tag count two
-  two-count : (t : Tag) → is_of t (entry_of x) ≡ true → is_of t (entry_of y) ≡ true
-      → (at : ℕ) (before : List (List ℕ)) → 1 < count_of t (as_is at before)
-  two-count t h k at [] = rw (h, k) (omega arith)
-  two-count t h k at (l ∷ ls) =
-      let later = two-count t h k (at + length l + 2) ls in cases (is_of t (entry_of l)) (λ e. rw e (omega arith)) (λ e. rw e later)
-
-  module _ (apart : both_time x y ≡ false) (at : ℕ) (before : List (List ℕ)) (fine : bad_lines (as_is at before) ≡ false) where
-    -- two neighbours of good lines are of one tag only where both are TIME
-    tag-apart : (t : Tag) → is_of t (entry_of x) && is_of t (entry_of y) ≡ false
-    tag-apart t = cases (is_of t (entry_of x) && is_of t (entry_of y)) (λ e. absurd (go e)) (λ e. e)
-      where
-        go : is_of t (entry_of x) && is_of t (entry_of y) ≡ true → ⊥
-        go e =
-            let two = both (is_of t (entry_of x)) (is_of t (entry_of y)) e in
-            cases (eqb (index_of t) 13)
-            (λ q.
-            let time = index-once t tag.Time (eqb-true (index_of t) 13 q) in
-            false≢true (sym apart ∙ subst (λ (u : Tag). is_of u (entry_of x) && is_of u (entry_of y) ≡ true) time e))
-            (λ q.
-            let twice = twice-again t (as_is at before) q (two-count t two.0 two.1 at before) in
-            false≢true (sym (neither_right (any_bad (as_is at before)) (again (as_is at before)) fine) ∙ twice))
-
-    -- Of good lines, where the two are not both TIME: the line of a tag by its number has the same bytes,
-    pub line-exchanged : (t : Tag) (n : ℕ) → line_of t n (as_is at before) ≡ line_of t n (exchanged at before)
-    unfolding line_of
-    line-exchanged t n =
-        ap (λ (g : ℕ → List ℕ). g n)
-        (exchange (λ ls k. line_of t k ls) (λ l g k. picked (is_of t (entry_of l)) k l g) (λ l ls. refl) x y after
-        (λ g i k. swap-picked (is_of t (entry_of x)) (is_of t (entry_of y)) (tag-apart t) k x y g i) at before)
-
-    -- and states the same but for the place: the value of each tag and the time of each song are the same.
-    pub nth_exchanged : (t : Tag) (n : ℕ) → unplaced (nth_of t n (as_is at before)) ≡ unplaced (nth_of t n (exchanged at before))
-    nth_exchanged t n =
-        nth_line t n (as_is at before)
-        ∙ ap (λ (l : List ℕ). unplaced (stated_by 0 (entry_of l))) (line-exchanged t n)
-        ∙ sym (nth_line t n (exchanged at before))
-
-    -- The tags are against the type or against SONGS as they were: 53 is the same.
-    pub against-exchanged : against (λ t. stated t (as_is at before)) (count_of tag.Time (as_is at before))
-        ≡ against (λ t. stated t (exchanged at before)) (count_of tag.Time (exchanged at before))
-    against-exchanged =
-        against-alike (λ t. stated t (as_is at before)) (λ t. stated t (exchanged at before)) (λ t. nth_exchanged t 0)
-        (count_of tag.Time (as_is at before)) (count_of tag.Time (exchanged at before)) (count-exchanged tag.Time at before)
-
-    -- The header is the same but for where texts stand.
-    pub header-exchanged : (blocks first : ℕ)
-        → without_places (header_for (λ t. stated t (as_is at before)) (count_of tag.Time (as_is at before)) blocks first)
-        ≡ without_places (header_for (λ t. stated t (exchanged at before)) (count_of tag.Time (exchanged at before)) blocks first)
-    header-exchanged =
-        header-alike (λ t. stated t (as_is at before)) (λ t. stated t (exchanged at before)) (λ t. nth_exchanged t 0)
-        (count_of tag.Time (as_is at before)) (count_of tag.Time (exchanged at before)) (count-exchanged tag.Time at before)

@@ -1,12 +1,11 @@
--- Two neighbouring lines exchanged in a file: AUTHOR, NAME and DATE may stand elsewhere, and their bytes are
--- the same.
+-- The bytes of AUTHOR, NAME and DATE in a file. That they are the same with two neighbouring lines exchanged
+-- stands in proofs/Texts.antt.
 -- OfText          the tags whose argument is a text
 -- text_bytes       the bytes of a text in a file
 -- line_text        the bytes of a line's text
 -- line-text       a text lies in its line
 -- texts_placed    the bytes of a text in a file are those in its line
--- texts_exchanged the law
-use Rattle.std.specs.Prelude.{ℕ, zero, suc, ◌+◌, ◌≤◌, ◌≡◌, refl, true, false, cond, ◌&&◌, take, leb, eqb}
+use Rattle.std.specs.Prelude.{ℕ, zero, suc, ◌+◌, ◌≤◌, ◌≡◌, refl, true, cond, ◌&&◌, take, leb, eqb}
 use Rattle.std.proofs.Math.Path.{sym, ap}
 use Rattle.std.proofs.Common.{subst, ◌∙◌, length-drop, drop-drop, eqb-true}
 use mathlib.Core.List.{List, [], ◌∷◌, ◌++◌}
@@ -29,10 +28,10 @@ use Rattle.saplines.specs.declared.Line.{Line}
 use Rattle.saplines.specs.declared.Line.TheVariants.{Bad, Good}
 use Rattle.saplines.specs.Lines.{spaced, argument_after, with_argument, with_tag, line_at}
 use Rattle.saplines.specs.Laws.{line-within}
-use Rattle.saptext.specs.Stated.{whole, entry_of, is_of, bad_lines, Stated, stated_by, nth_of, stated}
+use Rattle.saptext.specs.Stated.{whole, entry_of, is_of, Stated, stated_by, nth_of}
 use Rattle.saptext.specs.Stated.Stated.{absent, given}
-use Rattle.saplaws.specs.Exchange.{placed, both_time, line_of, entry_none, line-exchanged}
-use Rattle.saplaws.specs.Files.{closed, with_two, Exchanged}
+use Rattle.saplaws.specs.Exchange.{placed, line_of, entry_none}
+use Rattle.saplaws.specs.Files.{closed}
 
 pub data OfText : Tag → Type 0 where
   author : OfText tag.Author
@@ -135,26 +134,3 @@ module _ (t : Tag) (o : OfText t) (f : List ℕ) where
       choose zero later =
           cases (is_of t (entry_of l)) (λ h. rw h (text-placed at l (0x0D ∷ 0x0A ∷ closed ls q) e h)) (λ h. rw h (later zero))
       choose (suc n) later = cases (is_of t (entry_of l)) (λ h. rw h (later n)) (λ h. rw h (later (suc n)))
-
--- lines in two parts
-closed_append : (ls ks : List (List ℕ)) (q : List ℕ) → closed (ls ++ ks) q ≡ closed ls (closed ks q)
-closed_append [] ks q = refl
-closed_append (l ∷ ls) ks q = rw (closed_append ls ks q)
-
--- Where the lines are good and the two are not both TIME, the bytes of each text are the same.
-pub texts_exchanged : (before : List (List ℕ)) (x y q : List ℕ) (e : Exchanged before x y q) → both_time x y ≡ false
-    → bad_lines (placed 5 (before ++ x ∷ y ∷ e.after)) ≡ false → (t : Tag) → OfText t
-    → text_bytes (with_two before x y q) (stated t (placed 5 (before ++ x ∷ y ∷ e.after)))
-    ≡ text_bytes (with_two before y x q) (stated t (placed 5 (before ++ y ∷ x ∷ e.after)))
-texts_exchanged before x y q e apart fine t o =
-    in_lines x y
-    ∙ ap line_text (line-exchanged x y e.after apart 5 before fine t 0)
-    ∙ sym (in_lines y x)
-  where
-    in_lines : (a b : List ℕ)
-        → text_bytes (with_two before a b q) (stated t (placed 5 (before ++ a ∷ b ∷ e.after)))
-        ≡ line_text (line_of t 0 (placed 5 (before ++ a ∷ b ∷ e.after)))
-    in_lines a b =
-        texts_placed t o (with_two before a b q) e.tail 5 (before ++ a ∷ b ∷ e.after)
-        (ap (λ (s : List ℕ). closed before (closed (a ∷ b ∷ []) s)) e.bytes ∙ sym (closed_append before (a ∷ b ∷ e.after) e.tail))
-        0

@@ -1,0 +1,4 @@
+pub mod Exchange
+pub mod Header
+pub mod Outcomes
+pub mod Texts
