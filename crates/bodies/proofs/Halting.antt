@@ -67,8 +67,14 @@ only_end P p (repeat t i r) h = absurd h
 only_end P p (phrase k i r) h = absurd h
 only_end P p (call k r) h = absurd h
 
+-- events that are not HLT, before events without HLT
+no_hlt-append : (xs ys : List Event) → EachEvent Goes xs → NoHlt ys → NoHlt (xs ++ ys)
+unfolding NoHlt EachEvent
+no_hlt-append [] ys p q = q
+no_hlt-append (x ∷ xs) ys p q = (p.0, no_hlt-append xs ys p.1 q)
+
 module _ (n : ℕ) where
-  halted_after : (xs es : List Event) → NoHlt xs → EndsInHlt es n → EndsInHlt (xs ++ es) n
+  halted_after : (xs es : List Event) → EachEvent Goes xs → EndsInHlt es n → EndsInHlt (xs ++ es) n
   halted_after xs es p h =
       record {
         before = xs ++ h.before;
@@ -76,7 +82,7 @@ module _ (n : ℕ) where
         split = ap (λ (l : List Event). xs ++ l) h.split ∙ sym (append_assoc xs h.before (h.last ∷ []));
         number = h.number;
         halts = h.halts;
-        only = each_append Goes xs h.before p h.only;
+        only = no_hlt-append xs h.before p h.only;
       }
 
   -- HED, DEF and CAL are not HLT, and so for what stands between an opener and its closer
@@ -91,7 +97,7 @@ module _ (n : ℕ) where
 
   ending_played : (calls : ℕ → List Event) → Calm calls → (b : Body) → Ending n (written_out b)
       → EndsInHlt (interpret playing calls b) n
-  unfolding written_out interpret Ending EachEvent
+  unfolding written_out interpret Ending EachEvent NoHlt
   ending_played calls c (done d) h = absurd h
   ending_played calls c (event e r) h =
       ⊎_elim

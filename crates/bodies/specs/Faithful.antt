@@ -54,8 +54,9 @@ EachEvent P (e ∷ es) = P e × EachEvent P es
 abbrev pub Goes : Event → Type 0
 Goes e = e.meaning ≡ accepted Meaning.Hlt → ⊥
 
-abbrev pub NoHlt : List Event → Type 0
-NoHlt es = EachEvent Goes es
+unfoldable pub NoHlt : List Event → Type 0
+NoHlt [] = Unit
+NoHlt (e ∷ es) = (e.meaning ≡ accepted Meaning.Hlt → ⊥) × NoHlt es
 
 pub record EndsInHlt (es : List Event) (n : ℕ) : Type 0 where
   pub before : List Event
