@@ -8,7 +8,8 @@ use Rattle.sid.proofs.CutOff as sid
 use Rattle.sap.specs.FirstLine.{first_line}
 use Rattle.mus.specs.Laws as mus
 use Rattle.card.specs.Judging.{judged}
-use Rattle.card.specs.Kinds.{file_kind, kind_of_judgement, kind-judged, kind-long}
+use Rattle.card.specs.Kinds.{file_kind, kind_of_judgement, kind-long}
+use Rattle.card.proofs.KindJudged.{kind-judged}
 use Rattle.card.specs.CutOff.{line-take, judged-cut}
 
 -- The first n bytes of a file have the kind of the whole file, for n from 65,663 to its length, whatever it

@@ -1,2 +1,3 @@
+pub mod KindJudged
 pub mod Accepted
 pub mod CutOff

@@ -16,7 +16,7 @@ use Rattle.sid.proofs.CutOff as sid
 use Rattle.sap.specs.FirstLine.{first_line}
 use Rattle.mus.specs.Laws as mus
 use Rattle.card.specs.Judging.{judged}
-use Rattle.card.specs.Kinds.{file_kind, kind_of_judgement, kind-judged, kind-long}
+use Rattle.card.specs.Kinds.{file_kind, kind_of_judgement, kind-long}
 
 magic-take : (f : List ℕ) (n : ℕ) → 4 ≤ n → be32 (take n f) 0 ≡ be32 f 0
 unfolding be32 be16

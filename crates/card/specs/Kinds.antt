@@ -5,7 +5,8 @@
 --                with `SAP` CR LF, else its head_kind
 -- number_of_kind   the number of each case of an answer
 -- kind_of_tune, kind_of_judgement   the kind that a judgement gives a file
--- kind-judged    the kind of a file is the one that its judgement gives it
+-- tune-kind, sap-kind, head-kind   so for each way to judge a file; that the kind of a file is the one that its
+--                judgement gives it stands in proofs/KindJudged.antt (kind-judged)
 -- kind-most      it is at most 4
 -- kind-long      it is 4 for a file of more than 65,536 bytes that begins with `SAP` CR LF
 -- kind-once      no two answers have the same number
@@ -71,7 +72,7 @@ kind_of_judgement (Judgement.refused_song number place) = 3
 kind_of_judgement (Judgement.neither number place) = 0
 
 -- an accepted file's header has the kind of its magic, and a refused file the one that it is judged by
-tune-kind : (f : List ℕ) (k : Kind) → kind_of_magic (be32 f 0) ≡ k → kind_of_judgement (as_tune k (sid_outcome f)) ≡ kind_of_tune k
+pub tune-kind : (f : List ℕ) (k : Kind) → kind_of_magic (be32 f 0) ≡ k → kind_of_judgement (as_tune k (sid_outcome f)) ≡ kind_of_tune k
 unfolding header_of fields_of
 tune-kind f k m = go (sid_outcome f) refl
   where
@@ -79,23 +80,15 @@ tune-kind f k m = go (sid_outcome f) refl
     go (accepted h) e = ap (λ (x : Header). kind_of_tune x.kind) (sym (accepted-header f h e)) ∙ ap kind_of_tune m
     go (refused n p) e = refl
 
-sap-kind : (o : Outcome SapHeader) (m : Outcome Song) → kind_of_judgement (as_sap o m) ≡ sap_kind o m
+pub sap-kind : (o : Outcome SapHeader) (m : Outcome Song) → kind_of_judgement (as_sap o m) ≡ sap_kind o m
 sap-kind (accepted h) m = refl
 sap-kind (refused n p) (accepted s) = refl
 sap-kind (refused n p) (refused k q) = refl
 
-head-kind : (h : Outcome Voices) (o : Outcome Song) → kind_of_judgement (by_head h o) ≡ head_kind h
+pub head-kind : (h : Outcome Voices) (o : Outcome Song) → kind_of_judgement (by_head h o) ≡ head_kind h
 head-kind (refused n p) o = refl
 head-kind (accepted v) (accepted s) = refl
 head-kind (accepted v) (refused n p) = refl
-
--- The kind of a file is the one that its judgement gives it.
-pub kind-judged : (f : List ℕ) → kind_of_judgement (judged f) ≡ file_kind f
-kind-judged f =
-    cases (eqb (be32 f 0) psid) (λ p. rw p (tune-kind f tune.Psid (ap kind_of_magic (eqb-true (be32 f 0) psid p))))
-    (λ p. cases (eqb (be32 f 0) rsid) (λ r. rw (p, r) (tune-kind f tune.Rsid (ap kind_of_magic (eqb-true (be32 f 0) rsid r))))
-    (λ r. cases (first_line f) (λ b. rw (p, r, b) (sap-kind (sap_outcome f) (mus_outcome f)))
-    (λ b. rw (p, r, b) (ap kind_of_judgement (sym (by_head_lem f)) ∙ head-kind (head_outcome f) (mus_outcome f)))))
 
 head-most : (o : Outcome Voices) → head_kind o ≤ 4
 head-most (accepted v) = lit≤ tt

@@ -1,0 +1,35 @@
+-- kind-judged   the kind of a file is the one that its judgement gives it
+use Rattle.std.specs.Prelude.{ℕ, ◌<◌, ◌≤◌, ◌≡◌, refl, List, Bool, true, false, cond, eqb, length}
+use Rattle.std.proofs.Common.{sym, ap, ◌∙◌, lit≤, eqb-true}
+use Rattle.logic.specs.Cases.{cases}
+use Rattle.refusals.specs.Numbers.{Outcome}
+use Rattle.refusals.specs.Numbers.Outcome.{accepted, refused}
+use Rattle.fields.specs.Numbers.{be32}
+use Rattle.sidheader.specs.Fields.{psid, rsid, fields_of}
+use Rattle.sid.specs.declared.Kind.{Kind}
+use Rattle.sid.specs.declared.Kind.TheVariants as tune
+use Rattle.sid.specs.declared.Header.{Header}
+use Rattle.sid.specs.Header.{kind_of_magic, header_of}
+use Rattle.sid.specs.Answers.{sid_outcome}
+use Rattle.sid.specs.Acceptance.{accepted-header}
+use Rattle.sapheader.specs.declared.Header.{Header as SapHeader}
+use Rattle.sap.specs.FirstLine.{first_line}
+use Rattle.sap.specs.Answers.{sap_outcome}
+use Rattle.container.specs.declared.Voices.{Voices}
+use Rattle.container.specs.Head.{head_outcome}
+use Rattle.mus.specs.declared.Song.{Song}
+use Rattle.mus.specs.Song.{mus_outcome}
+use Rattle.mus.specs.Laws.{long-refused}
+use Rattle.card.specs.declared.FileKind.{FileKind}
+use Rattle.card.specs.declared.FileKind.TheVariants as answer
+use Rattle.card.specs.Judging.{Judgement, as_tune, as_sap, judged}
+use Rattle.card.specs.Laws.{no-tune, by_head, by_head_lem}
+use Rattle.card.specs.Kinds.{file_kind, kind_of_judgement, tune-kind, sap-kind, head-kind}
+
+-- The kind of a file is the one that its judgement gives it.
+pub kind-judged : (f : List ℕ) → kind_of_judgement (judged f) ≡ file_kind f
+kind-judged f =
+    cases (eqb (be32 f 0) psid) (λ p. rw p (tune-kind f tune.Psid (ap kind_of_magic (eqb-true (be32 f 0) psid p))))
+    (λ p. cases (eqb (be32 f 0) rsid) (λ r. rw (p, r) (tune-kind f tune.Rsid (ap kind_of_magic (eqb-true (be32 f 0) rsid r))))
+    (λ r. cases (first_line f) (λ b. rw (p, r, b) (sap-kind (sap_outcome f) (mus_outcome f)))
+    (λ b. rw (p, r, b) (ap kind_of_judgement (sym (by_head_lem f)) ∙ head-kind (head_outcome f) (mus_outcome f)))))
