@@ -1,9 +1,9 @@
 // What programs read: a file by its name, whole or its first bytes, standard input, and the arguments.
 #![tactic(auto)]
 
-ghost use Rattle.std.specs.Prelude.{◌<◌, IfOk, length, take};
+ghost use Rattle.std.specs.Prelude.{◌<◌, IfOk, OnErr, length, take};
 ghost use Rattle.std.specs.Io.KnownBytes.{Consumes, IsAtEnd};
-ghost use Rattle.files.specs.Reading.{Filled, ReadInto};
+ghost use Rattle.files.specs.Reading.{Filled, FilledPart, ReadInto};
 
 mod arguments;
 pub mod errors;
@@ -34,6 +34,7 @@ fn number(error: Error) -> i32 {
 }
 
 // internal: what a reader gives, until it ends or the list is full; the cells after that stay as they were.
+// Where a read fails, what was read before it lies in the first cells.
 // The reader is lent a list of its own: what it does to the cells after those that it counts, nobody says.
 // That list has no multiple of 4,096 bytes: where both lists lie at such a distance, copying takes several
 // times as long.
@@ -42,6 +43,8 @@ pub fn read_full<R: Read>(from: &mut R, out: &mut [u8]) -> io::Result<usize>
     ensures bytes { IfOk result (λ n.
         Consumes (R.remaining from.old) (R.remaining from.new) (take n out.new)) }
     ensures end { IfOk result (λ n. n < length out.new → IsAtEnd (R.remaining from.new)) }
+    ensures failed { OnErr result
+        (FilledPart (R.remaining from.old) (R.remaining from.new) out.old out.new) }
 {
     let mut done = 0;
     let mut chunk = [0u8; 20000];
@@ -84,12 +87,19 @@ pub fn read_file(rt: &impl Files, path: &[u8], out: &mut [u8]) -> Loaded
     }
 }
 
+// More bytes than std writes of an error.
+const WORDS_MAX: usize = 300;
+
 // internal: a line on standard error of what failed, a colon, and the machine's words for the error number.
 pub fn fail(rt: &HostRuntime, what: &[u8], error: i32) -> io::Result<()> {
-    let words = Error::from_raw_os_error(error).to_string(rt.alloc())?;
+    let mut list = [0u8; WORDS_MAX];
+    let mut room = &mut list[..];
+    write!(room, "{}", Error::from_raw_os_error(error))?;
+    let n = WORDS_MAX.saturating_sub(room.len());
+    let words = str::from_utf8(&list[..n]).unwrap_or("");
     let mut err = rt.stderr();
     err.write_all(what)?;
-    match words.as_str().split_once(" (os error ") {
+    match words.split_once(" (os error ") {
         Some((text, _)) => writeln!(err, ": {text}"),
         None => writeln!(err, ": {words}"),
     }

@@ -1,3 +1,4 @@
 pub mod Decimal
 pub mod Room
 pub mod Signed
+pub mod Taken

@@ -1,28 +1,56 @@
 // Text to a writer, such as standard output. Each call appends its text and answers how long that is. Where a
-// write fails, its error is the answer, and the writer may have taken a part of the text.
-ghost use Rattle.std.specs.Prelude.{◌≡◌, ◌++◌, length, IfOk, OnOk};
-ghost use Rattle.std.specs.Io.KnownBytes.{Appends};
+// write fails, its error is the answer, and the writer has taken a first part of the text and nothing else.
+ghost use Rattle.std.specs.Prelude.{◌≡◌, ◌<◌, ◌≤◌, ◌++◌, length, take, IfOk, OnOk, OnErr};
+ghost use Rattle.std.specs.Io.KnownBytes.{Appends, Keeps};
 ghost use Rattle.printing.specs.Digits.{decimal, hex_digits, signed_digits, refusal_digits};
+ghost use Rattle.printing.specs.Writing.{TakesPart};
 
 use crate::digits::decimal;
 use crate::text::hex;
 use refusals::Refusal;
 use std::io;
-use std::io::Write;
+use std::io::{Error, ErrorKind, Write};
+
+// One write of a text that is not empty. It is tried again where a signal interrupts it.
+fn write_some<W: Write>(out: &mut W, text: &[u8]) -> io::Result<usize>
+    ensures bound { IfOk result (λ n. n ≤ length text.now) }
+    ensures some { IfOk result (λ n. 0 < n) }
+    ensures written { IfOk result (λ n.
+        Appends (W.contents out.old) (W.contents out.new) (take n text.now)) }
+    ensures kept { OnErr result (Keeps (W.contents out.old) (W.contents out.new)) }
+{
+    for _ in 0..u64::MAX {
+        match out.write(text) {
+            Ok(0) => return Err(Error::from(ErrorKind::WriteZero)),
+            Ok(n) => return Ok(n),
+            Err(error) => {
+                if error.kind() != ErrorKind::Interrupted {
+                    return Err(error);
+                }
+            }
+        }
+    }
+    Err(Error::from(ErrorKind::TimedOut))
+}
 
 // internal: a text.
 pub fn write<W: Write>(out: &mut W, text: &[u8]) -> io::Result<usize>
     ensures value { IfOk result (λ k. k ≡ length text.now) }
     ensures written { OnOk result (Appends (W.contents out.old) (W.contents out.new) text.now) }
+    ensures failed { OnErr result (TakesPart (W.contents out.old) (W.contents out.new) text.now) }
 {
-    out.write_all(text)?;
-    Ok(text.len())
+    let mut done = 0;
+    while done < text.len() {
+        done += write_some(out, &text[done..])?;
+    }
+    Ok(done)
 }
 
 // internal: the decimal digits of a number.
 pub fn write_number<W: Write>(out: &mut W, n: u64) -> io::Result<usize>
     ensures value { IfOk result (λ k. k ≡ length (decimal n)) }
     ensures written { OnOk result (Appends (W.contents out.old) (W.contents out.new) (decimal n)) }
+    ensures failed { OnErr result (TakesPart (W.contents out.old) (W.contents out.new) (decimal n)) }
 {
     let mut digits = [0u8; 20];
     write(out, decimal(n, &mut digits))
@@ -33,6 +61,8 @@ pub fn write_after<W: Write>(out: &mut W, text: &[u8], n: u64) -> io::Result<usi
     ensures value { IfOk result (λ k. k ≡ length (decimal n)) }
     ensures written { OnOk result
         (Appends (W.contents out.old) (W.contents out.new) (text.now ++ decimal n)) }
+    ensures failed { OnErr result
+        (TakesPart (W.contents out.old) (W.contents out.new) (text.now ++ decimal n)) }
 {
     write(out, text)?;
     write_number(out, n)
@@ -42,6 +72,7 @@ pub fn write_after<W: Write>(out: &mut W, text: &[u8], n: u64) -> io::Result<usi
 pub fn write_hex<W: Write>(out: &mut W, byte: u8) -> io::Result<usize>
     ensures value { IfOk result (λ k. k ≡ length (hex_digits byte)) }
     ensures written { OnOk result (Appends (W.contents out.old) (W.contents out.new) (hex_digits byte)) }
+    ensures failed { OnErr result (TakesPart (W.contents out.old) (W.contents out.new) (hex_digits byte)) }
 {
     let digits = hex(byte);
     write(out, &digits)
@@ -51,6 +82,7 @@ pub fn write_hex<W: Write>(out: &mut W, byte: u8) -> io::Result<usize>
 pub fn write_signed<W: Write>(out: &mut W, v: i32) -> io::Result<usize>
     ensures value { IfOk result (λ k. k ≡ length (signed_digits v)) }
     ensures written { OnOk result (Appends (W.contents out.old) (W.contents out.new) (signed_digits v)) }
+    ensures failed { OnErr result (TakesPart (W.contents out.old) (W.contents out.new) (signed_digits v)) }
 {
     let parts = signed::parts_of(v);
     let size = parts.size as u64;
@@ -65,6 +97,7 @@ pub fn write_signed<W: Write>(out: &mut W, v: i32) -> io::Result<usize>
 pub fn write_refusal<W: Write>(out: &mut W, x: Refusal) -> io::Result<usize>
     ensures value { IfOk result (λ k. k ≡ length (refusal_digits x)) }
     ensures written { OnOk result (Appends (W.contents out.old) (W.contents out.new) (refusal_digits x)) }
+    ensures failed { OnErr result (TakesPart (W.contents out.old) (W.contents out.new) (refusal_digits x)) }
 {
     let number = write_number(out, x.number as u64)?;
     Ok(number + 1 + write_after(out, b" ", x.place as u64)?)

@@ -1,6 +1,8 @@
--- Two numbers have at most forty digits.
-use Rattle.std.proofs.Common.{arith}
+-- Two numbers have at most forty digits. Where the second fails, the writer has taken the first.
+use Rattle.std.proofs.Common.{arith, ◌∷◌}
+use Rattle.printing.specs.Digits.{decimal}
 use Rattle.printing.proofs.Decimal.{length-decimal}
+use Rattle.printing.proofs.Taken.{of_error, part_after}
 use Rattle.printing.proofs.output.write_refusal.Goals as goal
 
 pub overflow_add-result : goal.overflow_add-result
@@ -11,3 +13,10 @@ overflow_add-result-2 g c =
     let x = c.args.x in
     let number = c.in_ok-number.ensures.value in
     omega (arith, number, c.in_ok-write_after.ensures.value, length-decimal x.number, length-decimal x.place)
+
+pub returns-in_err-write_after-clause-failed : goal.returns-in_err-write_after-clause-failed
+returns-in_err-write_after-clause-failed g c =
+    let x = c.args.x in
+    let first = c.in_ok-number.ensures.written in
+    of_error c.from_residual-in_err-write_after.result
+    (part_after _ _ _ (decimal x.number) (32 ∷ decimal x.place) first c.in_err-write_after.ensures.failed)
