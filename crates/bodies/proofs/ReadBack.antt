@@ -1,6 +1,6 @@
 -- The bodies of a voice written out again are its stored pairs; no event in them is HED, TAL, DEF, END or
 -- CAL.
--- read-back     a voice whose bodies are shut, HED n, its body, TAL; DEF k, its body, END; .., is its stored
+-- read_back     a voice whose bodies are shut, HED n, its body, TAL; DEF k, its body, END; .., is its stored
 --               pairs
 -- only-events   each event's kind is neither HED, TAL, DEF, END nor CAL
 use Prim.Native.Nat.{ℕ, ◌+◌}

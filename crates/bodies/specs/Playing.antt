@@ -5,8 +5,8 @@
 -- interpret           what is made of a body, where calls k is what is made of CAL k
 -- learn, phrases      what is made of the bodies of the DEFs in a body, by number, each where it is defined
 -- phrases_of           so for a whole voice
--- of_voice             what is made of a voice, its CALs by its DEFs: 'CAL k gives one copy of the body of DEF
---                     k'
+-- of_voice             what is made of a voice, its CALs by its DEFs: 'CAL k gives one copy of the body of
+--                     DEF k'
 -- copies              'n copies of the body played out, one behind the other'
 -- playing, played     'An event gives itself. HED n, its body and its TAL give n copies .. DEF k, its body
 --                     and its END give one copy. CAL k gives one copy'

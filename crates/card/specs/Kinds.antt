@@ -5,8 +5,8 @@
 --                with `SAP` CR LF, else its head_kind
 -- number_of_kind   the number of each case of an answer
 -- kind_of_tune, kind_of_judgement   the kind that a judgement gives a file
--- tune-kind, sap-kind, head-kind   so for each way to judge a file; that the kind of a file is the one that its
---                judgement gives it stands in proofs/KindJudged.antt (kind-judged)
+-- tune-kind, sap-kind, head-kind   so for each way to judge a file; that the kind of a file is the one that
+--                its judgement gives it stands in proofs/KindJudged.antt (kind-judged)
 -- kind-most      it is at most 4
 -- kind-long      it is 4 for a file of more than 65,536 bytes that begins with `SAP` CR LF
 -- kind-once      no two answers have the same number

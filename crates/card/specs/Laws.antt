@@ -5,8 +5,8 @@
 -- sap-judged    a file that is accepted as SAP, whatever the MUS reader answers
 -- song-judged   a file that is accepted as MUS and not as SAP: begun with PSID or RSID, the length of its
 --               first voice would be odd (23)
--- accepts, is_accepted, some_accepts   whether a reader accepts, a judgement is of an accepted file, and one of
---                                    the three readers accepts a file
+-- accepts, is_accepted, some_accepts   whether a reader accepts, a judgement is of an accepted file, and one
+--                                    of the three readers accepts a file
 -- That a file is judged an accepted one exactly when one of them accepts it stands in proofs/Accepted.antt.
 -- judged-once   two answers of one judgement are one answer
 -- by_head, by_head_lem, by_outcomes   the same by the tests 21 to 24 alone (`head_outcome`), as the code goes

@@ -2,8 +2,8 @@
 -- bytes.
 -- digit_value        0-9 mean 0 to 9 and A-F 10 to 15; any other byte is no digit, and has 16
 -- is_digit           a digit of a base: 10 or 16
--- is_text_character   'characters with ASCII codes from space to underscore plus all lowercase letters plus the
---                   pipe character', and no quote (house)
+-- is_text_character   'characters with ASCII codes from space to underscore plus all lowercase letters plus
+--                   the pipe character', and no quote (house)
 -- leading, rest     the bytes before the first that does not pass a test, and the bytes from that one on
 -- begins            the first byte is a given one, not 0
 -- stands            the bytes begin with those of a word, which has no 0 in it

@@ -8,8 +8,8 @@
 --                                     byte; those whose value begins in it
 -- row_found        the row that a first byte fits, or what else there is
 -- unassigned      27
--- joined_outcome, other_outcome   the meaning of a pair by these rows; 'Unassigned: low bits 01 other than 01,
---                               and 8E AE CE EE'
+-- joined_outcome, other_outcome   the meaning of a pair by these rows; 'Unassigned: low bits 01 other than
+--                               01, and 8E AE CE EE'
 use Rattle.std.specs.Prelude.{ℕ, ◌+◌, ◌*◌, List, [], ◌∷◌, cond, eqb, leb}
 use Rattle.meaning.specs.declared.Meaning.{Meaning}
 use Rattle.meaning.specs.declared.Meaning.TheVariants.{Pw, Tem, Utl, Pnt, Hed, Flg, Ps, Fs, Vdp, Vrt, Aut, Aux, Pvd, Pvr, Max, Utv, Fc, Hld, Ms, Dtn, Por}

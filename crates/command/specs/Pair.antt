@@ -1,6 +1,6 @@
 -- Document 01, 'A pair', commands: 'First byte 01: ..' and 'First byte otherwise: ..'
--- command_from      the meaning of a command's pair, or 27 or 28, where a number is the least of the rows 1nnn
---                  of DEF and CAL (rowsFrom of crates/commandtable/specs/Codes.antt)
+-- command_from      the meaning of a command's pair, or 27 or 28, where a number is the least of the rows
+--                  1nnn of DEF and CAL (rows_from of crates/commandtable/specs/Codes.antt)
 -- command_outcome   the same by the table as it holds
 use Rattle.std.specs.Prelude.{ℕ, cond, eqb}
 use Rattle.meaning.specs.declared.Meaning.{Meaning}

@@ -3,8 +3,8 @@
 -- Command                   the commands of the table in its order, and none
 -- Row                       a row: the second byte's pattern, the command, and which numbers it may have and
 --                           what is added to them
--- counts, is, plus16, up_to  kinds of rows: every number; a byte with one value; numbers from a least one with
---                           16 added; numbers up to a greatest
+-- counts, is, plus16, up_to  kinds of rows: every number; a byte with one value; numbers from a least one
+--                           with 16 added; numbers up to a greatest
 -- rows_from                  the table, where a number is the least of the two rows 1nnn of DEF and CAL
 -- rows                      the table as it holds: that least number is 0, which is phrase 16
 -- fits_row                   whether a byte fits a row, with a number that the row may have

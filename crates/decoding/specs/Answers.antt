@@ -1,5 +1,6 @@
 -- What the answers of the code's parts say: the value that a digit stands for, or 43.
--- outcome_of_duration, outcome_of_shape, outcome_of_letter, outcome_of_accidental, outcome_of_tone   for each case
+-- outcome_of_duration, outcome_of_shape, outcome_of_letter, outcome_of_accidental, outcome_of_tone   for each
+--                  case
 -- duration-once, shape-once, letter_once, accidental_once, tone-once   no two answers have the same outcome
 use Rattle.std.specs.Prelude.{◌≡◌, refl}
 use Rattle.std.proofs.Common.{sym}

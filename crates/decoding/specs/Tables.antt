@@ -4,7 +4,8 @@
 -- Entry, entry       a number and what it stands for
 -- lookup             what a table has for a number, or 43
 -- durations, shapes, ties, letters, accidentals   a note's digits
--- as_count, as_switch, as_bump, bare   what a command's value makes of it: a number; NO, YES; UP, DN; no value
+-- as_count, as_switch, as_bump, bare   what a command's value makes of it: a number; NO, YES; UP, DN; no
+--                    value
 -- bump_at             UP or DN
 -- above, below       a number above and below 0
 -- unsigned_commands   the commands by number, of a value with sign digit 0

@@ -9,7 +9,7 @@
 -- cell-offset, cell_jiffy     each cell below the count holds the offset, the jiffy, of its event
 -- cell_beyond                 every other cell keeps its old content
 -- length-kept                 no list changes its length
--- past-the-end                past the end nothing is listed
+-- past_the_end                past the end nothing is listed
 -- two_windows                 a listing in two parts is the listing in one
 -- jiffies-never_fall          the jiffies listed never fall
 -- meet_again                  events of equal exact time share a jiffy, whichever voices they are of

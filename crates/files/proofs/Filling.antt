@@ -1,18 +1,14 @@
 -- A list filled from its first cell on, part by part, with what a reader gives.
--- fill_none   before the first part
 -- fill_next   one part more
--- took_none, took_next   the reader has lost what lies in the first cells: before the first part, one more
-use Rattle.std.specs.Prelude.{ℕ, ◌+◌, ◌≤◌, ◌≡◌, List, [], ◌++◌, length, take, drop, None, Some}
-use Rattle.std.proofs.Common.{refl, sym, ap, ◌∙◌, arith, append_assoc, length-append, length-take}
+-- took_next   the reader has lost what lies in the first cells: one part more
+use Rattle.std.specs.Prelude.{ℕ, ◌+◌, ◌≤◌, ◌≡◌, List, ◌++◌, length, take, drop, None, Some}
+use Rattle.std.proofs.Common.{sym, ap, ◌∙◌, arith, append_assoc, length-append, length-take}
 use Rattle.std.proofs.Math.Seq.{drop-drop, drop-append_seam, take-append_seam}
 use Rattle.std.specs.declared.option.Option.{Option}
 use Rattle.std.specs.Io.KnownBytes.{Consumes}
 use Rattle.fields.specs.Parts.{put}
 use Rattle.fields.proofs.Memory.{length-put}
 use Rattle.files.specs.Reading.{Filled}
-
-pub fill_none : (out : List ℕ) → Filled 0 out out
-fill_none out = record { within = omega arith; cells = refl; others = refl }
 
 module _ (out new p : List ℕ) (done n : ℕ) (room : done + n ≤ length out) (all : length p ≡ n)
     (e : new ≡ put out done p) where
@@ -44,7 +40,3 @@ module _ (out new p : List ℕ) (done n : ℕ) (room : done + n ≤ length out) 
   took_next (Some xs) (Some ys) (Some zs) before next =
       let first = take done out in
       rw front (before ∙ ap (λ (l : List ℕ). first ++ l) next ∙ sym (append_assoc first p zs))
-
-pub took_none : (a : Option (List ℕ)) → Consumes a a []
-took_none None = tt
-took_none (Some xs) = refl

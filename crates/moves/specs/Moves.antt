@@ -6,8 +6,8 @@
 -- top                       what is kept of the repeat or call that is innermost
 -- tal, tal_frames            after a TAL: the place, and what is kept
 -- end                       the place after an END
--- place_after, frames_after   after each pair: the place, where body is what a CAL goes to, and what is kept of
---                           repeats and calls
+-- place_after, frames_after   after each pair: the place, where body is what a CAL goes to, and what is kept
+--                           of repeats and calls
 use Rattle.std.specs.Prelude.{ℕ, ◌+◌, ◌-◌, ◌*◌, ◌/◌, ◌%◌, ◌<◌, ◌≤◌, ◌&&◌, cond, List, eqb, ltb, get_or, set}
 use Rattle.kind.specs.declared.Kind.{Kind}
 use Rattle.kind.specs.declared.Kind.TheVariants as Kind

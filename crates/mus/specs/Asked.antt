@@ -2,8 +2,8 @@
 -- names a voice is answered.
 -- number_tests   41
 -- song_voice     a voice of a song by its number
--- asked_by       a voice by its number: 41, then the file's own refusal, then the voice, where read is the way
---               to read pairs
+-- asked_by       a voice by its number: 41, then the file's own refusal, then the voice, where read is the
+--               way to read pairs
 -- voice_asked    the same with document 01's reader, pairs
 -- bytes_of       a voice's bytes in the file
 use Rattle.std.specs.Prelude.{ℕ, ◌||◌, cond, List, [], ◌∷◌, eqb, ltb, take, drop}

@@ -3,7 +3,7 @@
 --                note', else a command
 -- spelling_from   a meaning's two bytes, or 43: notes, then 004's commands in its order, each with its
 --                greatest value and where the value stands
--- In both, least is the least number of the rows 1nnn of DEF and CAL (rowsFrom of
+-- In both, least is the least number of the rows 1nnn of DEF and CAL (rows_from of
 -- crates/commandtable/specs/Codes.antt).
 -- meaning_of, spelling_of   both by the tables as they hold: that least number is 0
 use Rattle.std.specs.Prelude.{ℕ, ◌%◌, cond, eqb}

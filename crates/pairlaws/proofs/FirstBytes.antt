@@ -1,5 +1,6 @@
 -- The meaning of a pair by the kind of its first byte.
--- starts_value, joined-meaning   first bytes in which a value begins, but for P-W, and the rows that rule them
+-- starts_value, joined-meaning   first bytes in which a value begins, but for P-W, and the rows that rule
+--                them
 -- pw_meaning      P-W's first bytes
 -- other-meaning   every first byte that is none of the others
 use Prim.Native.Nat.{ℕ, ◌+◌, ◌*◌, ◌/◌, ◌%◌, ◌<◌}

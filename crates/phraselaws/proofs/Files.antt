@@ -68,8 +68,8 @@ filled_same es gs first os js (accepted v) same = λ i. window_of v (same v refl
 filled_same es gs first os js (refused n p) same = refl
 
 module _ (f : List ℕ) where
-  -- a reader that gives a file today's outcome, and each voice of an accepted file today's pairs, gives today's
-  -- listings
+  -- a reader that gives a file today's outcome, and each voice of an accepted file today's pairs, gives
+  -- today's listings
   listed_so : (read : Reader) → song_by read f ≡ mus_outcome f
       → ((s : Song) (n : ℕ) → mus_outcome f ≡ accepted s
       → read (bytes_of f (song_voice s n)) ≡ pairs (bytes_of f (song_voice s n)))

@@ -3,7 +3,8 @@
 -- holds these rows to the table that the first release had. No code has this.
 -- meaning_before    a pair's meaning, or 27 or 28, by the earlier table
 -- spelling_before   a meaning's two bytes, or 43, by the earlier writer
--- pairs_before      the stored pairs of a voice; with it song_by, asked_by and listing_by are the earlier answers
+-- pairs_before      the stored pairs of a voice; with it song_by, asked_by and listing_by are the earlier
+--                  answers
 -- sixteen          the two pairs that were unassigned and are not now: 01 83, DEF 16, and 01 8B, CAL 16
 -- Without          none of the stored pairs of a voice is one of the two
 -- WithoutSixteen   none of the stored pairs of a file's three voices is one of the two

@@ -1,2 +1,3 @@
-// What phrase 16 left as it was, of the definitions alone: specs/ states and proves it. No code.
+// What phrase 16 left as it was, of the definitions alone: specs/ has the earlier table, proofs/ the
+// statements and their proofs. No code.
 #![tactic(auto)]

@@ -7,8 +7,8 @@
 -- header_in            what a file says of itself
 -- outcome_of_sap        the paper's number and values for each case of an answer
 -- sap_outcome          the first of 51 to 54 that applies, else the header
--- Passing, passing, moment_for, outcome_of_tested, tested_outcome   the same with the time of a song and a block
---                 by its number
+-- Passing, passing, moment_for, outcome_of_tested, tested_outcome   the same with the time of a song and a
+--                 block by its number
 use Rattle.std.specs.Prelude.{ℕ, not, List, [], ◌∷◌, length}
 use Rattle.refusals.specs.Numbers.{Outcome}
 use Rattle.refusals.specs.Numbers.Outcome.{accepted, refused}

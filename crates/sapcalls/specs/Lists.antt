@@ -6,8 +6,8 @@
 -- init_number, music_number, player_number   the addresses, 0 where the type has none
 -- has_player                  '1 where there is a player, else 0': of type D only where it states one
 -- kind_numbers                these five together
--- offset_number, length_number, text_numbers   the offset and the length of a text; '0 and 0 where there is no
---                            such tag'
+-- offset_number, length_number, text_numbers   the offset and the length of a text; '0 and 0 where there is
+--                            no such tag'
 -- sap_numbers                 the header's fields in their order
 use Rattle.std.specs.Prelude.{ℕ, min, Bool, true, false, List, [], ◌∷◌}
 use Rattle.sapheader.specs.declared.TextPlace.{TextPlace}

@@ -1,2 +1,3 @@
-// Laws of the lines of a SAP header, of the definitions alone: specs/ states and proves them. No code.
+// Laws of the lines of a SAP header, of the definitions alone: specs/ and proofs/ state and prove them.
+// No code.
 #![tactic(auto)]

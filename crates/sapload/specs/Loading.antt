@@ -1,6 +1,6 @@
 -- Document 01, 'What comes back', and document 02 (i): loading a SAP file into memory.
--- sap_load_outcome   '40, 41 and 42 are tested before the file': 40 where memory is not 65,536 bytes, then the
---                  file's own
+-- sap_load_outcome   '40, 41 and 42 are tested before the file': 40 where memory is not 65,536 bytes, then
+--                  the file's own
 -- sap_memory_with    what an outcome puts into memory
 -- sap_memory_after   'Loading goes block by block, a later byte replacing an earlier one'; a refusal 'changes
 --                  no lent memory'

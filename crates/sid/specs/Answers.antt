@@ -1,8 +1,8 @@
 -- Document 01, 'What comes back' and 'PSID and RSID': what reading a PSID or RSID file comes back with.
 -- outcome_of_tune   the paper's number and values for each case of an answer
 -- sid_outcome      the first of 1 to 13 that applies, else the header
--- Passing, passing, outcome_of_tested, tested_outcome   the same with the fields and the payload that the header
---                                                    is made of, for code that needs no texts
+-- Passing, passing, outcome_of_tested, tested_outcome   the same with the fields and the payload that the
+--                                                    header is made of, for code that needs no texts
 -- headed          such an outcome with its header made
 use Rattle.std.specs.Prelude.{ℕ, List}
 use Rattle.refusals.specs.Numbers.{Outcome}

@@ -3,7 +3,8 @@
 --               file's own
 -- put_outcome    the same with the fields and the payload that the header is made of
 -- memory_with    what an outcome puts into memory
--- memory_after   'Loading leaves every cell but the payload's as it stood'; a refusal 'changes no lent memory'
+-- memory_after   'Loading leaves every cell but the payload's as it stood'; a refusal 'changes no lent
+--               memory'
 use Rattle.std.specs.Prelude.{ℕ, not, List, [], ◌∷◌, length, eqb}
 use Rattle.refusals.specs.Numbers.{Outcome}
 use Rattle.refusals.specs.Numbers.Outcome.{accepted, refused}

@@ -3,8 +3,8 @@
 -- Small     counts that stop where they should, at most 16 deep
 -- Running   counts of a body that is still being read: past the stop by its last events at most, fewer than a
 --           voice has bytes
--- packed_counts, unpacked_counts   counts in one number, and back: events from bit 26 on, pairs walked in bits
---                                5 to 25, depth in bits 0 to 4
+-- packed_counts, unpacked_counts   counts in one number, and back: events from bit 26 on, pairs walked in
+--                                bits 5 to 25, depth in bits 0 to 4
 use Rattle.std.specs.Prelude.{ℕ, ◌+◌, ◌*◌, ◌/◌, ◌%◌, ◌≤◌}
 use Rattle.tally.specs.declared.Counts.{Counts}
 

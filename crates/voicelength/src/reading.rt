@@ -46,9 +46,9 @@ fn step_of(first: u8, second: u8) -> Step
 }
 
 // internal: the map of a voice that acceptance let pass; its numbers are small enough to be summed. A TAL
-// makes n passes of the body that it closes, an END keeps the body's map, and a CAL uses it. One turn a stored
-// pair, whose two bytes are fetched once: the loop's falling number is the stored pairs that are left (μ-loop
-// of proofs/reading/map_of).
+// makes n passes of the body that it closes, an END keeps the body's map, and a CAL uses it. One turn a
+// stored pair, whose two bytes are fetched once: the loop's falling number is the stored pairs that are left
+// (decreases-loop-at of proofs/reading/map_of/Invariants.antt).
 pub fn map_of(voice: &[u8]) -> TimeMap
     requires { Readable voice.now }
     ensures { (result ≡ map_of (pairs voice.now)) × Small result }

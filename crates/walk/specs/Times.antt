@@ -1,6 +1,6 @@
 -- Document 01, 'Playing a voice': each event of a played-out voice with its offset and its jiffy.
--- offsets_of    'its offset is where its pair stands in the file': of each event, where the voice's first pair
---              stands at base
+-- offsets_of    'its offset is where its pair stands in the file': of each event, where the voice's first
+--              pair stands at base
 -- meanings     what each event means
 -- jiffies_of    the jiffy of each event, by the exact times of crates/clock/specs/Times.antt
 use Rattle.std.specs.Prelude.{ℕ, ◌+◌, ◌*◌, List, map}
