@@ -129,36 +129,35 @@ fn check_named(rt: &impl Files, out: &mut impl Write, name: &[u8]) -> io::Result
     }
 }
 
-// Checks the file that argument i names.
-fn check_argument(rt: &(impl Env + Files), out: &mut impl Write, i: usize) -> io::Result<Checked> {
+// Checks the file that argument i names. None: there is no such argument.
+fn check_argument(
+    rt: &(impl Env + Files),
+    out: &mut impl Write,
+    i: usize,
+) -> io::Result<Option<Checked>> {
     let mut name = [0u8; NAME];
     match rt.arg(i, &mut name) {
-        Ok(n) => check_named(rt, out, fields::part(&name, 0, n)),
-        Err(error) => {
+        Ok(n) => Ok(Some(check_named(rt, out, fields::part(&name, 0, n))?)),
+        Err(FillError::NotPresent) => Ok(None),
+        Err(FillError::TooLong) => {
             // its first bytes are there
             let start = fields::part(&name, 0, 64);
-            cannot(out, start, b"..: cannot be opened: ", number(error))
+            let why = b"..: cannot be opened: ";
+            Ok(Some(cannot(out, start, why, errors::ENAMETOOLONG)?))
         }
     }
 }
 
-// The machine's number for an argument that is not given: it is too long for the list, or there is none.
-fn number(error: FillError) -> i32 {
-    match error {
-        FillError::TooLong => errors::ENAMETOOLONG,
-        FillError::NotPresent => errors::EINVAL,
-    }
-}
-
-fn check_all(rt: &(impl Env + Files), out: &mut impl Write, count: usize) -> io::Result<()> {
+fn check_all(rt: &(impl Env + Files), out: &mut impl Write) -> io::Result<()> {
     let mut accepted = 0;
     let mut refused = 0;
     let mut unreadable = 0;
-    for i in 1..count {
+    for i in 1..usize::MAX {
         match check_argument(rt, out, i)? {
-            Checked::Accepted => accepted += 1,
-            Checked::Refused => refused += 1,
-            Checked::Unreadable => unreadable += 1,
+            Some(Checked::Accepted) => accepted += 1,
+            Some(Checked::Refused) => refused += 1,
+            Some(Checked::Unreadable) => unreadable += 1,
+            None => break,
         }
     }
     lines::total(out, accepted, refused, unreadable)
@@ -166,9 +165,8 @@ fn check_all(rt: &(impl Env + Files), out: &mut impl Write, count: usize) -> io:
 
 fn main(rt: HostRuntime) -> io::Result<()> {
     let mut out = rt.stdout();
-    let count = files::arg_count(&rt);
-    if count <= 1 {
+    if files::arg(&rt, 1, &mut []).is_none() {
         return lines::usage(&mut out);
     }
-    check_all(&rt, &mut out, count)
+    check_all(&rt, &mut out)
 }

@@ -8,8 +8,8 @@ ghost use Rattle.files.specs.Reading.{Filled, FilledPart, ReadInto};
 mod arguments;
 pub mod errors;
 
-pub use arguments::{arg, arg_count};
-use std::io::{Error, Read, Write};
+pub use arguments::arg;
+use std::io::{Error, Read};
 use std::rt::Files;
 use std::{fs, io, str};
 
@@ -84,23 +84,5 @@ pub fn read_file(rt: &impl Files, path: &[u8], out: &mut [u8]) -> Loaded
     match fs::open(rt, name) {
         Ok(mut file) => read_open(&mut file, out),
         Err(error) => Loaded::NotOpened(number(error)),
-    }
-}
-
-// More bytes than std writes of an error.
-const WORDS_MAX: usize = 300;
-
-// internal: a line on standard error of what failed, a colon, and the machine's words for the error number.
-pub fn fail(rt: &HostRuntime, what: &[u8], error: i32) -> io::Result<()> {
-    let mut list = [0u8; WORDS_MAX];
-    let mut room = &mut list[..];
-    write!(room, "{}", Error::from_raw_os_error(error))?;
-    let n = WORDS_MAX.saturating_sub(room.len());
-    let words = str::from_utf8(&list[..n]).unwrap_or("");
-    let mut err = rt.stderr();
-    err.write_all(what)?;
-    match words.split_once(" (os error ") {
-        Some((text, _)) => writeln!(err, ": {text}"),
-        None => writeln!(err, ": {words}"),
     }
 }

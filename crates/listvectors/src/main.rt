@@ -6,7 +6,7 @@ ghost use Rattle.std.specs.Prelude.{◌≤◌};
 
 use events::Listed;
 use files::Loaded;
-use printing::{write, write_after, write_refusal};
+use printing::{write, write_after, write_failure, write_refusal};
 use refusals::Refusal;
 use std::io;
 use std::io::Write;
@@ -74,7 +74,10 @@ fn number(text: &[u8]) -> u64 {
 // Argument i, shown with a space before it, as a number.
 fn argument(rt: &HostRuntime, out: &mut impl Write, i: usize) -> io::Result<u64> {
     let mut word = [0u8; 32];
-    let n = files::arg(rt, i, &mut word);
+    let n = match files::arg(rt, i, &mut word) {
+        Some(n) => n,
+        None => 0,
+    };
     write(out, b" ")?;
     write(out, &word[..n])?;
     Ok(number(&word[..n]))
@@ -152,21 +155,31 @@ fn report_call(rt: &HostRuntime, name: &[u8], file: &[u8], i: usize) -> io::Resu
     report(&mut out, file, call)
 }
 
+// Whether the five arguments from i on are there.
+fn has_row(rt: &HostRuntime, i: usize) -> bool {
+    files::arg(rt, i.wrapping_add(4), &mut []).is_some()
+}
+
 // Reads the file that argument i names, and reports the call of it.
 fn report_row(rt: &HostRuntime, i: usize) -> io::Result<()> {
     let mut name = [0u8; 64];
     let mut file = [0u8; 66000];
-    let n = files::arg(rt, i, &mut name);
+    let n = match files::arg(rt, i, &mut name) {
+        Some(n) => n,
+        None => 0,
+    };
     match files::read_file(rt, &name[..n], &mut file) {
         Loaded::Bytes(len) => report_call(rt, &name[..n], fields::part(&file, 0, len), i),
-        Loaded::NotOpened(error) => files::fail(rt, &name[..n], error),
-        Loaded::NotRead(error) => files::fail(rt, &name[..n], error),
+        Loaded::NotOpened(error) => write_failure(&mut rt.stderr(), &name[..n], error),
+        Loaded::NotRead(error) => write_failure(&mut rt.stderr(), &name[..n], error),
     }
 }
 
 fn main(rt: HostRuntime) -> io::Result<()> {
-    let rows = files::arg_count(&rt) / 5;
-    for row in 0..rows {
+    for row in 0..usize::MAX / 5 {
+        if !has_row(&rt, 5 * row + 1) {
+            break;
+        }
         report_row(&rt, 5 * row + 1)?;
     }
     Ok(())

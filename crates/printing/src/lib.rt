@@ -5,5 +5,7 @@ mod digits;
 mod output;
 mod text;
 
-pub use output::{write, write_after, write_hex, write_number, write_refusal, write_signed};
+pub use output::{
+    write, write_after, write_failure, write_hex, write_number, write_refusal, write_signed,
+};
 pub use text::{put, put_after, put_hex, put_number, put_signed};

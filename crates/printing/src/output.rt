@@ -3,13 +3,13 @@
 ghost use Rattle.std.specs.Prelude.{◌≡◌, ◌<◌, ◌≤◌, ◌++◌, length, take, IfOk, OnOk, OnErr};
 ghost use Rattle.std.specs.Io.KnownBytes.{Appends, Keeps};
 ghost use Rattle.printing.specs.Digits.{decimal, hex_digits, signed_digits, refusal_digits};
-ghost use Rattle.printing.specs.Writing.{TakesPart};
+ghost use Rattle.printing.specs.Writing.{TakesPart, AppendsFailure, TakesPartOfFailure};
 
 use crate::digits::decimal;
 use crate::text::hex;
 use refusals::Refusal;
-use std::io;
 use std::io::{Error, ErrorKind, Write};
+use std::{io, str};
 
 // One write of a text that is not empty. It is tried again where a signal interrupts it.
 fn write_some<W: Write>(out: &mut W, text: &[u8]) -> io::Result<usize>
@@ -101,4 +101,34 @@ pub fn write_refusal<W: Write>(out: &mut W, x: Refusal) -> io::Result<usize>
 {
     let number = write_number(out, x.number as u64)?;
     Ok(number + 1 + write_after(out, b" ", x.place as u64)?)
+}
+
+// More bytes than std writes of an error.
+const WORDS_MAX: usize = 300;
+
+// The machine's words for an error number, in a list that is lent for them. std sets the number after them.
+fn words_of(error: i32, out: &mut [u8; WORDS_MAX]) -> &[u8] {
+    let mut room = &mut out[..];
+    let _ = write!(room, "{}", Error::from_raw_os_error(error));
+    let n = WORDS_MAX.saturating_sub(room.len());
+    let text = str::from_utf8(&out[..n]).unwrap_or("");
+    match text.split_once(" (os error ") {
+        Some((words, _)) => words.as_bytes(),
+        None => text.as_bytes(),
+    }
+}
+
+// internal: a line of what failed, a colon, and the machine's words for the error number.
+pub fn write_failure<W: Write>(out: &mut W, what: &[u8], error: i32) -> io::Result<()>
+    ensures written { OnOk result (AppendsFailure (W.contents out.old) (W.contents out.new) what.now) }
+    ensures failed { OnErr result
+        (TakesPartOfFailure (W.contents out.old) (W.contents out.new) what.now) }
+{
+    let mut list = [0u8; WORDS_MAX];
+    let words = words_of(error, &mut list);
+    write(out, what)?;
+    write(out, b": ")?;
+    write(out, words)?;
+    write(out, b"\n")?;
+    Ok(())
 }

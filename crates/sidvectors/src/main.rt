@@ -4,7 +4,7 @@
 
 use fields::Span;
 use files::Loaded;
-use printing::{write, write_after, write_refusal};
+use printing::{write, write_after, write_failure, write_refusal};
 use refusals::Refusal;
 use sid::{Header, Kind, Reading, SongSpeed};
 use std::io;
@@ -285,26 +285,31 @@ fn report(out: &mut impl Write, name: &[u8], file: &[u8], first_two: bool) -> io
     Ok(())
 }
 
-// Reports the file that argument i names.
-fn report_argument(rt: &HostRuntime, i: usize) -> io::Result<()> {
+// Reports the file that argument i names. Answers whether there is such an argument.
+fn report_argument(rt: &HostRuntime, i: usize) -> io::Result<bool> {
     let mut name = [0u8; 64];
     let mut file = [0u8; 66000];
-    let n = files::arg(rt, i, &mut name);
+    let Some(n) = files::arg(rt, i, &mut name) else {
+        return Ok(false);
+    };
     match files::read_file(rt, &name[..n], &mut file) {
         Loaded::Bytes(len) => report(
             &mut rt.stdout(),
             &name[..n],
             fields::part(&file, 0, len),
             i <= 2,
-        ),
-        Loaded::NotOpened(error) => files::fail(rt, &name[..n], error),
-        Loaded::NotRead(error) => files::fail(rt, &name[..n], error),
+        )?,
+        Loaded::NotOpened(error) => write_failure(&mut rt.stderr(), &name[..n], error)?,
+        Loaded::NotRead(error) => write_failure(&mut rt.stderr(), &name[..n], error)?,
     }
+    Ok(true)
 }
 
 fn main(rt: HostRuntime) -> io::Result<()> {
-    for i in 1..files::arg_count(&rt) {
-        report_argument(&rt, i)?;
+    for i in 1..usize::MAX {
+        if !report_argument(&rt, i)? {
+            break;
+        }
     }
     Ok(())
 }
