@@ -8,13 +8,12 @@
 -- low_fits, unplaced-fits      such a place fits an answer, and so does 0
 -- low-apart                    where refusals are low, and values below 2^32, an answer tells them apart
 -- tests_low                    so for tests made before an outcome
-use Rattle.std.specs.Prelude.{ℕ, ◌/◌, ◌%◌, ◌≤◌, ◌<◌, ◌≡◌, refl, List}
+use Rattle.std.specs.Prelude.{Ok, Err, ℕ, ◌/◌, ◌%◌, ◌≤◌, ◌<◌, ◌≡◌, refl, List}
 use Rattle.std.proofs.Common.{arith, lit≤}
 use Rattle.refusals.specs.Numbers.{Outcome}
 use Rattle.refusals.specs.Numbers.Outcome.{accepted, refused}
-use Rattle.refusals.specs.declared.Verdict.{Verdict}
-use Rattle.refusals.specs.declared.Verdict.TheVariants.{Passed, Failed}
-use Rattle.refusals.specs.Tests.{Test, first_of, guarded}
+use Rattle.refusals.specs.declared.Test.{Test}
+use Rattle.refusals.specs.Tests.{Verdict, first_of, guarded}
 use Rattle.refusals.specs.Laws.{first_above}
 use Rattle.answers.specs.Answers.{packed}
 
@@ -71,5 +70,5 @@ pub tests_low : {A : Type 0} (ts : List Test) (o : Outcome A) → LowPlace o →
 tests_low ts o h = go (first_of ts) refl
   where
     go : (v : Verdict) → first_of ts ≡ v → LowPlace (guarded v o)
-    go Passed e = h
-    go (Failed n) e = (first_above ts n e, lit≤ tt)
+    go (Ok _) e = h
+    go (Err r) e = (first_above ts r e, lit≤ tt)

@@ -18,7 +18,7 @@ use Rattle.bodies.specs.Playing.{interpret, learn, phrases, copies, playing, phr
 use Rattle.bodies.specs.Order.{Sound}
 use Rattle.bodies.specs.Faithful.{EachEvent, Goes, NoHlt, EndsInHlt}
 use Rattle.bodies.proofs.ReadBack.{read_back}
-use Rattle.bodies.proofs.Everywhere.{PieceHas, EachPiece, each_append, each-copies, Hold, hold_learn}
+use Rattle.bodies.proofs.Everywhere.{PieceHas, EachPiece, each-copies, Hold, hold_learn}
 use Rattle.bodies.proofs.Everywhere.{each-played, each-phrases}
 
 abbrev pub QuietPiece : Piece → Type 0

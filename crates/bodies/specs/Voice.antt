@@ -11,7 +11,7 @@ use Rattle.meaning.specs.declared.Meaning.{Meaning}
 use Rattle.refusals.specs.Numbers.{Outcome}
 use Rattle.pair.specs.Pairs.{meaning_of}
 use Rattle.kind.specs.Plain.{is_plain}
-use Rattle.bodies.specs.declared.Bytes.{Bytes}
+use Rattle.meaning.specs.declared.Bytes.{Bytes}
 
 abbrev pub Reader : Type 0
 Reader = List ℕ → List (Outcome Meaning)

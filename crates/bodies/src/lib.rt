@@ -8,13 +8,7 @@ ghost use Rattle.bodies.specs.Voice.{bytes_at, pair_at, plain_at};
 ghost use Rattle.bodies.specs.Places.{IsPart};
 
 use kind::Kind;
-
-// The two bytes of a pair.
-#[derive(Clone, Copy)]
-pub struct Bytes {
-    pub first: u8,
-    pub second: u8,
-}
+use meaning::Bytes;
 
 // internal: the bytes of pair number i of a voice's bytes. Callers see that the pair is there.
 pub fn bytes_at(voice: &[u8], i: usize) -> Bytes
@@ -47,7 +41,7 @@ pub fn plain_at(voice: &[u8], i: usize) -> bool
 }
 
 // What a pair is to the bodies: an event, a HED with its number of passes, a DEF or a CAL with its number, or
-// a TAL or END.
+// a TAL or END. It is no `Option<moves::Move>`: TAL and END close a body alike, and who counts asks no more.
 #[derive(Clone, Copy)]
 pub enum Part {
     Plain,

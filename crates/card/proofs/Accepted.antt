@@ -1,42 +1,20 @@
 -- judged-accepted   no file that some reader accepts is called refused
-use Rattle.std.specs.Prelude.{ℕ, ◌+◌, ◌*◌, ◌<◌, ◌%◌, refl, Bool, true, false, cond, ◌&&◌, ◌||◌, List, eqb, leb}
-use Rattle.std.proofs.Math.Path.{◌≡◌, subst}
-use Rattle.std.proofs.Common.{sym, ap, ◌∙◌, lit<}
+use Rattle.std.specs.Prelude.{ℕ, ◌<◌, List, eqb}
+use Rattle.std.proofs.Math.Path.{◌≡◌}
+use Rattle.std.proofs.Common.{sym, ◌∙◌}
 use Rattle.std.proofs.lemmas.Bool.{false≢true}
-use native.Mathlib.Omega.{arith}
 use Rattle.std.proofs.Math.ListN.{get_or}
-use borrow.Author.Tests.{eqb-true, eqb-false, ne_eqb, le-leb, lt-leb}
 use Rattle.logic.specs.Cases.{cases}
-use Rattle.logic.specs.Truth.{both, neither}
-use Rattle.refusals.specs.Numbers.{Outcome}
-use Rattle.refusals.specs.Numbers.Outcome.{accepted, refused}
-use Rattle.fields.specs.Numbers.{be16, be32, le16}
-use Rattle.sidheader.specs.Fields.{psid, rsid, fields_of}
-use Rattle.sidrefusals.specs.PayloadTests.{sid_tests}
-use Rattle.sid.specs.declared.Kind.{Kind}
+use Rattle.fields.specs.Numbers.{be32}
+use Rattle.sidheader.specs.Fields.{psid, rsid}
 use Rattle.sid.specs.declared.Kind.TheVariants.{Psid, Rsid}
-use Rattle.sid.specs.declared.Header.{Header}
 use Rattle.sid.specs.Answers.{sid_outcome}
-use Rattle.sid.specs.Acceptance.{accepted_none}
-use Rattle.sapheader.specs.declared.Header.{Header as SapHeader}
 use Rattle.sap.specs.FirstLine.{first_line}
 use Rattle.sap.specs.Answers.{sap_outcome}
 use Rattle.sap.specs.Laws.{accepted-first-line}
-use Rattle.container.specs.declared.Voices.{Voices}
-use Rattle.container.specs.Head.{head_of, bad_length, head_outcome}
-use Rattle.container.specs.Layout.{container_tests}
-use Rattle.container.specs.ByNumber.{head-number}
-use Rattle.mus.specs.declared.Song.{Song}
 use Rattle.mus.specs.Song.{mus_outcome}
-use Rattle.mus.specs.Acceptance.{accepted-clear}
-use Rattle.mus.specs.Laws.{head-refused}
-use Rattle.mus.specs.ByNumber.{Above}
-use Rattle.mus.proofs.ByNumber.{head-above}
-use Rattle.card.specs.declared.Judged.{Judged}
-use Rattle.card.specs.declared.Judged.TheVariants as answer
-use Rattle.card.specs.Judging as judging
-use Rattle.card.specs.Judging.{Judgement, judgement_of, as_tune, as_sap, as_song, judged}
-use Rattle.card.specs.Laws.{never, tune-accepted, sap-accepted, song-accepted, alone, no-tune, no-psid, no-rsid, magic-right, accepts, is_accepted, some_accepts}
+use Rattle.card.specs.Judging.{judged}
+use Rattle.card.specs.Laws.{never, tune-accepted, sap-accepted, song-accepted, alone, no-tune, no-psid, no-rsid, magic-right, is_accepted, some_accepts}
 
 -- A file whose cells 2 and 3 are bytes is judged an accepted one exactly when one of the three readers
 -- accepts it: no file that some reader accepts is called refused.

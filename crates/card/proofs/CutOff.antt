@@ -1,13 +1,8 @@
 -- kind-cut   the first n bytes of a file have the kind of the whole file
-use Rattle.std.specs.Prelude.{ℕ, ◌≤◌, ◌<◌, ◌≡◌, Bool, true, false, ◌&&◌, List, leb, length, take}
-use Rattle.std.proofs.Common.{sym, ap, ◌∙◌, arith, length-take, length-take-le, get_or-take, take_all, leb-true, leb-false, le-leb}
+use Rattle.std.specs.Prelude.{ℕ, ◌≤◌, ◌≡◌, List, length, take}
+use Rattle.std.proofs.Common.{sym, ap, ◌∙◌, arith, length-take-le}
 use Rattle.logic.specs.Cases.{cases}
-use Rattle.logic.specs.Truth.{both}
-use Rattle.fields.specs.Numbers.{be16, be32}
-use Rattle.sid.proofs.CutOff as sid
 use Rattle.sap.specs.FirstLine.{first_line}
-use Rattle.mus.specs.Laws as mus
-use Rattle.card.specs.Judging.{judged}
 use Rattle.card.specs.Kinds.{file_kind, kind_of_judgement, kind-long}
 use Rattle.card.proofs.KindJudged.{kind-judged}
 use Rattle.card.specs.CutOff.{line-take, judged-cut}

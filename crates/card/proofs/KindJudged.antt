@@ -1,29 +1,17 @@
 -- kind-judged   the kind of a file is the one that its judgement gives it
-use Rattle.std.specs.Prelude.{ℕ, ◌<◌, ◌≤◌, ◌≡◌, refl, List, Bool, true, false, cond, eqb, length}
-use Rattle.std.proofs.Common.{sym, ap, ◌∙◌, lit≤, eqb-true}
+use Rattle.std.specs.Prelude.{ℕ, ◌≡◌, List, eqb}
+use Rattle.std.proofs.Common.{sym, ap, ◌∙◌, eqb-true}
 use Rattle.logic.specs.Cases.{cases}
-use Rattle.refusals.specs.Numbers.{Outcome}
-use Rattle.refusals.specs.Numbers.Outcome.{accepted, refused}
 use Rattle.fields.specs.Numbers.{be32}
-use Rattle.sidheader.specs.Fields.{psid, rsid, fields_of}
-use Rattle.sid.specs.declared.Kind.{Kind}
+use Rattle.sidheader.specs.Fields.{psid, rsid}
 use Rattle.sid.specs.declared.Kind.TheVariants as tune
-use Rattle.sid.specs.declared.Header.{Header}
-use Rattle.sid.specs.Header.{kind_of_magic, header_of}
-use Rattle.sid.specs.Answers.{sid_outcome}
-use Rattle.sid.specs.Acceptance.{accepted-header}
-use Rattle.sapheader.specs.declared.Header.{Header as SapHeader}
+use Rattle.sid.specs.Header.{kind_of_magic}
 use Rattle.sap.specs.FirstLine.{first_line}
 use Rattle.sap.specs.Answers.{sap_outcome}
-use Rattle.container.specs.declared.Voices.{Voices}
 use Rattle.container.specs.Head.{head_outcome}
-use Rattle.mus.specs.declared.Song.{Song}
 use Rattle.mus.specs.Song.{mus_outcome}
-use Rattle.mus.specs.Laws.{long-refused}
-use Rattle.card.specs.declared.FileKind.{FileKind}
-use Rattle.card.specs.declared.FileKind.TheVariants as answer
-use Rattle.card.specs.Judging.{Judgement, as_tune, as_sap, judged}
-use Rattle.card.specs.Laws.{no-tune, by_head, by_head_lem}
+use Rattle.card.specs.Judging.{judged}
+use Rattle.card.specs.Laws.{by_head_lem}
 use Rattle.card.specs.Kinds.{file_kind, kind_of_judgement, tune-kind, sap-kind, head-kind}
 
 -- The kind of a file is the one that its judgement gives it.

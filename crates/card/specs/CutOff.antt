@@ -7,8 +7,8 @@
 -- judged-held   where not, they are judged as the whole file
 -- held-long     where so, the whole file begins with `SAP` CR LF and has as many bytes as there is room for
 -- That they have the kind of the whole file, also those of a SAP file, stands in proofs/CutOff.antt.
-use Rattle.std.specs.Prelude.{ℕ, ◌≤◌, ◌<◌, ◌≡◌, Bool, true, false, ◌&&◌, List, leb, length, take}
-use Rattle.std.proofs.Common.{sym, ap, ◌∙◌, arith, length-take, length-take-le, get_or-take, take_all, leb-true, leb-false, le-leb}
+use Rattle.std.specs.Prelude.{ℕ, ◌≤◌, ◌≡◌, Bool, true, false, ◌&&◌, List, leb, length, take}
+use Rattle.std.proofs.Common.{sym, ap, ◌∙◌, arith, length-take, get_or-take, take_all, leb-true, leb-false, le-leb}
 use Rattle.logic.specs.Cases.{cases}
 use Rattle.logic.specs.Truth.{both}
 use Rattle.fields.specs.Numbers.{be16, be32}
@@ -16,7 +16,6 @@ use Rattle.sid.proofs.CutOff as sid
 use Rattle.sap.specs.FirstLine.{first_line}
 use Rattle.mus.specs.Laws as mus
 use Rattle.card.specs.Judging.{judged}
-use Rattle.card.specs.Kinds.{file_kind, kind_of_judgement, kind-long}
 
 magic-take : (f : List ℕ) (n : ℕ) → 4 ≤ n → be32 (take n f) 0 ≡ be32 f 0
 unfolding be32 be16

@@ -8,7 +8,8 @@
 -- as_song        any other file: a song where 21 to 24 do not apply to it as a MUS song, and else neither
 -- judged        a file
 use Rattle.std.specs.Prelude.{ℕ, List, cond, eqb, leb}
-use Rattle.refusals.specs.Numbers.{Outcome, number_of, voices_past_file}
+use Rattle.refusals.specs.declared.Reason.TheVariants.{VoicesPastFile}
+use Rattle.refusals.specs.Numbers.{Outcome, number_of}
 use Rattle.refusals.specs.Numbers.Outcome.{accepted, refused}
 use Rattle.fields.specs.Numbers.{be32}
 use Rattle.sidheader.specs.Fields.{psid, rsid}
@@ -35,12 +36,12 @@ pub data Judgement : Type 0 where
 
 abbrev pub judgement_of : Judged → Judgement
 judgement_of (answer.Tune h) = tune h
-judgement_of (answer.RefusedTune k x) = refused_tune k x.number x.place
+judgement_of (answer.RefusedTune k x) = refused_tune k (number_of x.reason) x.place
 judgement_of (answer.Sap h) = sap h
-judgement_of (answer.RefusedSap x) = refused_sap x.number x.place
+judgement_of (answer.RefusedSap x) = refused_sap (number_of x.reason) x.place
 judgement_of (answer.Song s) = song s
-judgement_of (answer.RefusedSong x) = refused_song x.number x.place
-judgement_of (answer.Neither x) = neither x.number x.place
+judgement_of (answer.RefusedSong x) = refused_song (number_of x.reason) x.place
+judgement_of (answer.Neither x) = neither (number_of x.reason) x.place
 
 abbrev pub as_tune : Kind → Outcome Header → Judgement
 as_tune kind (accepted h) = tune h
@@ -53,7 +54,7 @@ as_sap (refused number place) (refused musNumber musPlace) = refused_sap number 
 
 abbrev pub as_song : Outcome Song → Judgement
 as_song (accepted s) = song s
-as_song (refused number place) = cond (leb number (number_of voices_past_file)) (neither number place) (refused_song number place)
+as_song (refused number place) = cond (leb number (number_of VoicesPastFile)) (neither number place) (refused_song number place)
 
 abbrev pub judged : List ℕ → Judgement
 judged f =

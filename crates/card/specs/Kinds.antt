@@ -10,8 +10,8 @@
 -- kind-most      it is at most 4
 -- kind-long      it is 4 for a file of more than 65,536 bytes that begins with `SAP` CR LF
 -- kind-once      no two answers have the same number
-use Rattle.std.specs.Prelude.{ℕ, ◌<◌, ◌≤◌, ◌≡◌, refl, List, Bool, true, false, cond, eqb, length}
-use Rattle.std.proofs.Common.{sym, ap, ◌∙◌, lit≤, eqb-true}
+use Rattle.std.specs.Prelude.{ℕ, ◌<◌, ◌≤◌, ◌≡◌, refl, List, true, cond, eqb, length}
+use Rattle.std.proofs.Common.{sym, ap, ◌∙◌, lit≤}
 use Rattle.logic.specs.Cases.{cases}
 use Rattle.refusals.specs.Numbers.{Outcome}
 use Rattle.refusals.specs.Numbers.Outcome.{accepted, refused}
@@ -33,8 +33,8 @@ use Rattle.mus.specs.Song.{mus_outcome}
 use Rattle.mus.specs.Laws.{long-refused}
 use Rattle.card.specs.declared.FileKind.{FileKind}
 use Rattle.card.specs.declared.FileKind.TheVariants as answer
-use Rattle.card.specs.Judging.{Judgement, as_tune, as_sap, judged}
-use Rattle.card.specs.Laws.{no-tune, by_head, by_head_lem}
+use Rattle.card.specs.Judging.{Judgement, as_tune, as_sap}
+use Rattle.card.specs.Laws.{no-tune, by_head}
 
 abbrev pub head_kind : Outcome Voices → ℕ
 head_kind (accepted v) = 3

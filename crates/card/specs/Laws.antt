@@ -11,6 +11,7 @@
 -- judged-once   two answers of one judgement are one answer
 -- by_head, by_head_lem, by_outcomes   the same by the tests 21 to 24 alone (`head_outcome`), as the code goes
 use Rattle.std.specs.Prelude.{ℕ, ◌+◌, ◌*◌, ◌<◌, ◌%◌, refl, Bool, true, false, cond, ◌&&◌, ◌||◌, List, eqb, leb}
+use Rattle.std.specs.Result.{result_unwrap_or}
 use Rattle.std.proofs.Math.Path.{◌≡◌, subst}
 use Rattle.std.proofs.Common.{sym, ap, ◌∙◌, lit<}
 use Rattle.std.proofs.lemmas.Bool.{false≢true}
@@ -19,13 +20,15 @@ use Rattle.std.proofs.Math.ListN.{get_or}
 use borrow.Author.Tests.{eqb-true, eqb-false, ne_eqb, le-leb, lt-leb}
 use Rattle.logic.specs.Cases.{cases}
 use Rattle.logic.specs.Truth.{both, neither}
-use Rattle.refusals.specs.Numbers.{Outcome}
+use Rattle.refusals.specs.declared.Reason.TheVariants.{TooShort}
+use Rattle.refusals.specs.declared.Refusal.{Refusal}
+use Rattle.refusals.specs.Numbers.{Outcome, number_of, reason_numbered}
 use Rattle.refusals.specs.Numbers.Outcome.{accepted, refused}
+use Rattle.refusals.specs.Laws.{numbered-number}
 use Rattle.fields.specs.Numbers.{be16, be32, le16}
 use Rattle.sidheader.specs.Fields.{psid, rsid, fields_of}
 use Rattle.sidrefusals.specs.PayloadTests.{sid_tests}
 use Rattle.sid.specs.declared.Kind.{Kind}
-use Rattle.sid.specs.declared.Kind.TheVariants.{Psid, Rsid}
 use Rattle.sid.specs.declared.Header.{Header}
 use Rattle.sid.specs.Answers.{sid_outcome}
 use Rattle.sid.specs.Acceptance.{accepted_none}
@@ -167,24 +170,33 @@ alone f magic line song e = (
   never (mus_outcome f) (λ s a. song s a (eqb-true (be32 f 0) magic e)),
 )
 
+-- the refusal of a number and a place
+abbrev refusal_of : ℕ → ℕ → Refusal
+refusal_of n p = record { reason = result_unwrap_or (reason_numbered n) TooShort; place = p }
+
+refusal_back : (x : Refusal) → refusal_of (number_of x.reason) x.place ≡ x
+refusal_back x =
+    let reason : result_unwrap_or (reason_numbered (number_of x.reason)) TooShort ≡ x.reason = rw (numbered-number x.reason) in
+    λ i. record { reason = reason i; place = x.place }
+
 -- the answer that a judgement is of
 abbrev answer_of : Judgement → Judged
 answer_of (judging.Judgement.tune h) = answer.Tune h
-answer_of (judging.Judgement.refused_tune k n p) = answer.RefusedTune k (record { number = n; place = p })
+answer_of (judging.Judgement.refused_tune k n p) = answer.RefusedTune k (refusal_of n p)
 answer_of (judging.Judgement.sap h) = answer.Sap h
-answer_of (judging.Judgement.refused_sap n p) = answer.RefusedSap (record { number = n; place = p })
+answer_of (judging.Judgement.refused_sap n p) = answer.RefusedSap (refusal_of n p)
 answer_of (judging.Judgement.song s) = answer.Song s
-answer_of (judging.Judgement.refused_song n p) = answer.RefusedSong (record { number = n; place = p })
-answer_of (judging.Judgement.neither n p) = answer.Neither (record { number = n; place = p })
+answer_of (judging.Judgement.refused_song n p) = answer.RefusedSong (refusal_of n p)
+answer_of (judging.Judgement.neither n p) = answer.Neither (refusal_of n p)
 
 answer_back : (a : Judged) → answer_of (judgement_of a) ≡ a
 answer_back (answer.Tune h) = refl
-answer_back (answer.RefusedTune k x) = refl
+answer_back (answer.RefusedTune k x) = ap (answer.RefusedTune k) (refusal_back x)
 answer_back (answer.Sap h) = refl
-answer_back (answer.RefusedSap x) = refl
+answer_back (answer.RefusedSap x) = ap answer.RefusedSap (refusal_back x)
 answer_back (answer.Song s) = refl
-answer_back (answer.RefusedSong x) = refl
-answer_back (answer.Neither x) = refl
+answer_back (answer.RefusedSong x) = ap answer.RefusedSong (refusal_back x)
+answer_back (answer.Neither x) = ap answer.Neither (refusal_back x)
 
 -- Two answers that have one judgement are one answer.
 pub judged-once : (a b : Judged) → judgement_of a ≡ judgement_of b → a ≡ b

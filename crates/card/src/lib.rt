@@ -10,13 +10,14 @@ ghost use Rattle.card.specs.Judging.{judgement_of, as_tune, as_sap, as_song, jud
 ghost use Rattle.card.specs.Kinds.{sap_kind, file_kind, number_of_kind};
 ghost use Rattle.card.specs.CutOff.{cut_sap};
 
-use container::Heading;
 use mus::Song;
 use refusals::Refusal;
 use sid::{Header, Kind};
 
 // The answer to a file: a tune, a SAP file or a song that is accepted, one that is refused, or a file that is
-// none of these, with the refusal that a MUS reader gives it.
+// none of these, with the refusal that a MUS reader gives it. Each pair of cases is no Result of its own: a
+// tune's kind would stand beside its header, which has it too, and two answers would be one judgement (the
+// law judged-once).
 #[derive(Clone, Copy)]
 pub enum Judged {
     Tune(Header),
@@ -43,8 +44,8 @@ fn as_tune(file: &[u8], kind: Kind) -> Judged
     ensures { judgement_of result ≡ as_tune kind (sid_outcome file.now) }
 {
     match sid::read(file) {
-        sid::Reading::Accepted(h) => Judged::Tune(h),
-        sid::Reading::Refused(x) => Judged::RefusedTune(kind, x),
+        Ok(header) => Judged::Tune(header),
+        Err(refusal) => Judged::RefusedTune(kind, refusal),
     }
 }
 
@@ -53,10 +54,10 @@ fn as_sap(file: &[u8]) -> Judged
     ensures { judgement_of result ≡ as_sap (sap_outcome file.now) (mus_outcome file.now) }
 {
     match sap::read(file) {
-        sap::Reading::Accepted(h) => Judged::Sap(h),
-        sap::Reading::Refused(x) => match mus::accept(file) {
-            mus::Reading::Accepted(s) => Judged::Song(s),
-            mus::Reading::Refused(_) => Judged::RefusedSap(x),
+        Ok(header) => Judged::Sap(header),
+        Err(refusal) => match mus::accept(file) {
+            Ok(song) => Judged::Song(song),
+            Err(_) => Judged::RefusedSap(refusal),
         },
     }
 }
@@ -66,10 +67,10 @@ fn as_song(file: &[u8]) -> Judged
     ensures { judgement_of result ≡ as_song (mus_outcome file.now) }
 {
     match container::read_head(file) {
-        Heading::Refused(x) => Judged::Neither(x),
-        Heading::Fits(_) => match mus::accept(file) {
-            mus::Reading::Accepted(s) => Judged::Song(s),
-            mus::Reading::Refused(x) => Judged::RefusedSong(x),
+        Err(refusal) => Judged::Neither(refusal),
+        Ok(_) => match mus::accept(file) {
+            Ok(song) => Judged::Song(song),
+            Err(refusal) => Judged::RefusedSong(refusal),
         },
     }
 }
@@ -95,10 +96,10 @@ fn sap_kind(file: &[u8]) -> FileKind
     ensures { number_of_kind result ≡ sap_kind (sap_outcome file.now) (mus_outcome file.now) }
 {
     match sap::read(file) {
-        sap::Reading::Accepted(_) => FileKind::Sap,
-        sap::Reading::Refused(_) => match mus::accept(file) {
-            mus::Reading::Accepted(_) => FileKind::Mus,
-            mus::Reading::Refused(_) => FileKind::Sap,
+        Ok(_) => FileKind::Sap,
+        Err(_) => match mus::accept(file) {
+            Ok(_) => FileKind::Mus,
+            Err(_) => FileKind::Sap,
         },
     }
 }
@@ -119,8 +120,8 @@ pub fn kind_of(file: &[u8]) -> FileKind
         return sap_kind(file);
     }
     match container::read_head(file) {
-        Heading::Refused(_) => FileKind::Neither,
-        Heading::Fits(_) => FileKind::Mus,
+        Err(_) => FileKind::Neither,
+        Ok(_) => FileKind::Mus,
     }
 }
 

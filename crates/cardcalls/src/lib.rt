@@ -7,19 +7,11 @@ ghost use Rattle.fields.specs.Parts.{front};
 ghost use Rattle.card.specs.Kinds.{file_kind};
 ghost use Rattle.reasons.specs.Phrases.{phrase_at};
 
-use card::FileKind;
-
 // internal: the body of tt_kind.
 pub fn kind(file: &[u8]) -> u64
     ensures { result ≡ file_kind file.now }
 {
-    match card::kind_of(file) {
-        FileKind::Neither => 0,
-        FileKind::Psid => 1,
-        FileKind::Rsid => 2,
-        FileKind::Mus => 3,
-        FileKind::Sap => 4,
-    }
+    card::kind_of(file) as u64
 }
 
 // internal: the body of tt_reason.

@@ -1,208 +1,134 @@
 // What a line says of a file.
-use crate::text::{address, quote};
+use crate::text::Shown;
 use fields::Span;
 use files::errors;
 use mus::Song;
-use printing::{write, write_after, write_hex, write_number};
-use refusals::Refusal;
-use sapheader::{Player, TextPlace};
+use refusals::{Reason, Refusal};
+use sapheader::Player;
 use sid::{Header, Kind};
-use std::io;
 use std::io::Write;
+use std::{fmt, io};
 
-// From the first cell that the payload fills to the last.
-fn range(out: &mut impl Write, load: u16, payload: Span) -> io::Result<()> {
-    let first = load as usize;
-    address(out, first)?;
-    write(out, b"-")?;
-    address(out, first.wrapping_add(payload.len).wrapping_sub(1))
-}
-
-fn songs(out: &mut impl Write, n: u32) -> io::Result<()> {
-    write_number(out, n as u64)?;
-    if n == 1 {
-        write(out, b" song")?;
-    } else {
-        write(out, b" songs")?;
-    }
-    Ok(())
-}
-
-pub fn kind(out: &mut impl Write, kind: Kind) -> io::Result<()> {
+pub fn format_of(kind: Kind) -> &'static str {
     match kind {
-        Kind::Psid => {
-            write(out, b": PSID ")?;
-            Ok(())
-        }
-        Kind::Rsid => {
-            write(out, b": RSID ")?;
-            Ok(())
-        }
+        Kind::Psid => "PSID",
+        Kind::Rsid => "RSID",
     }
 }
 
-// A tune that is accepted.
+fn songs_word(n: u32) -> &'static str {
+    if n == 1 { "song" } else { "songs" }
+}
+
+// A text of a file by its place, as it is shown.
+fn text(file: &[u8], place: Span) -> Shown<'_> {
+    Shown(fields::span_part(file, place))
+}
+
+// A tune that is accepted: its name, by whom it is, and the cells that it fills, from the first to the last.
 pub fn tune(out: &mut impl Write, file: &[u8], h: Header) -> io::Result<()> {
-    let format = h.kind;
-    kind(out, format)?;
-    write(out, b"accepted: ")?;
-    quote(out, fields::span_part(file, h.title))?;
-    write(out, b" by ")?;
-    quote(out, fields::span_part(file, h.author))?;
-    write(out, b", ")?;
-    songs(out, h.songs as u32)?;
-    write(out, b", loads to ")?;
-    range(out, h.load, h.payload)?;
-    write(out, b"\n")?;
-    Ok(())
-}
-
-// The name of a SAP file, and by whom it is.
-fn named(out: &mut impl Write, file: &[u8], name: TextPlace, author: TextPlace) -> io::Result<()> {
-    match name {
-        TextPlace::At(span) => quote(out, fields::span_part(file, span))?,
-        TextPlace::Absent => {
-            write(out, b"no name")?;
-        }
-    }
-    match author {
-        TextPlace::At(span) => {
-            write(out, b" by ")?;
-            quote(out, fields::span_part(file, span))
-        }
-        TextPlace::Absent => {
-            write(out, b", no author")?;
-            Ok(())
-        }
-    }
+    let first = h.load as usize;
+    let last = first.wrapping_add(h.payload.len).wrapping_sub(1) % 65536;
+    write!(out, ": {} accepted: ", format_of(h.kind))?;
+    write!(out, "\"{}\" by ", text(file, h.title))?;
+    write!(out, "\"{}\", ", text(file, h.author))?;
+    write!(out, "{} {}, ", h.songs, songs_word(h.songs as u32))?;
+    writeln!(out, "loads to ${first:04X}-${last:04X}")
 }
 
 // The letter of a SAP file's type.
-fn letter(out: &mut impl Write, player: Player) -> io::Result<()> {
+fn letter(player: Player) -> char {
     match player {
-        Player::B(_) => {
-            write(out, b"B")?;
-            Ok(())
-        }
-        Player::C(_) => {
-            write(out, b"C")?;
-            Ok(())
-        }
-        Player::D(_) => {
-            write(out, b"D")?;
-            Ok(())
-        }
-        Player::S(_) => {
-            write(out, b"S")?;
-            Ok(())
-        }
+        Player::B(_) => 'B',
+        Player::C(_) => 'C',
+        Player::D(_) => 'D',
+        Player::S(_) => 'S',
     }
 }
 
 // A SAP file that is accepted.
 pub fn sap(out: &mut impl Write, file: &[u8], h: sapheader::Header) -> io::Result<()> {
-    let name = h.name;
-    let author = h.author;
-    let player = h.player;
-    write(out, b": SAP accepted: ")?;
-    named(out, file, name, author)?;
-    write(out, b", type ")?;
-    letter(out, player)?;
-    write(out, b", ")?;
-    songs(out, h.songs)?;
-    write(out, b"\n")?;
-    Ok(())
+    write!(out, ": SAP accepted: ")?;
+    match h.name {
+        Some(place) => write!(out, "\"{}\"", text(file, place))?,
+        None => write!(out, "no name")?,
+    }
+    match h.author {
+        Some(place) => write!(out, " by \"{}\"", text(file, place))?,
+        None => write!(out, ", no author")?,
+    }
+    write!(out, ", type {}, ", letter(h.player))?;
+    writeln!(out, "{} {}", h.songs, songs_word(h.songs))
 }
 
 // A song that is accepted.
 pub fn song(out: &mut impl Write, file: &[u8], s: Song) -> io::Result<()> {
-    let line = s.line1;
-    write_after(out, b": MUS accepted: voices of ", s.voice1.events as u64)?;
-    write_after(out, b", ", s.voice2.events as u64)?;
-    write_after(out, b" and ", s.voice3.events as u64)?;
-    write(out, b" events, ")?;
-    quote(out, fields::span_part(file, line))?;
-    write(out, b"\n")?;
-    Ok(())
+    write!(out, ": MUS accepted: voices of {}", s.voice1.events)?;
+    write!(out, ", {}", s.voice2.events)?;
+    write!(out, " and {} events, ", s.voice3.events)?;
+    writeln!(out, "\"{}\"", text(file, s.line1))
 }
 
-// The number's phrase.
-fn reason(out: &mut impl Write, number: u32) -> io::Result<()> {
-    let mut words = [0u8; 80];
-    let n = reasons::reason(number, &mut words);
-    write(out, fields::part(&words, 0, n))?;
-    Ok(())
-}
+// A reason in words.
+#[derive(Clone, Copy)]
+struct Phrase(Reason);
 
-// A refusal's number and place.
-fn placed(out: &mut impl Write, x: Refusal) -> io::Result<()> {
-    write_number(out, x.number as u64)?;
-    write_after(out, b" at place ", x.place as u64)?;
-    Ok(())
+impl fmt::Display for Phrase {
+    fn fmt<W: fmt::Write>(&self, f: &mut fmt::Formatter<W>) -> fmt::Result {
+        let mut words = [0u8; 80];
+        let n = reasons::reason(self.0.number(), &mut words);
+        write!(f, "{}", Shown(fields::part(&words, 0, n)))
+    }
 }
 
 // A refusal's number, place and reason.
 pub fn refusal(out: &mut impl Write, x: Refusal) -> io::Result<()> {
-    placed(out, x)?;
-    write(out, b": ")?;
-    reason(out, x.number)
+    write!(out, "{} at place {}: ", x.reason.number(), x.place)?;
+    write!(out, "{}", Phrase(x.reason))
 }
 
 // The same in a song: the place of 27 to 31 names a pair, whose bytes are shown.
 pub fn refusal_in_song(out: &mut impl Write, file: &[u8], x: Refusal) -> io::Result<()> {
-    if (x.number < refusals::UNASSIGNED_PAIR) | (refusals::HED_ZERO < x.number) {
-        return refusal(out, x);
-    }
-    placed(out, x)?;
-    write(out, b" (")?;
-    write_hex(out, fields::byte_at(file, x.place))?;
-    write(out, b" ")?;
-    write_hex(out, fields::byte_at(file, x.place.wrapping_add(1)))?;
-    write(out, b"): ")?;
-    reason(out, x.number)
-}
-
-// The number of an error's line in error.
-fn error_line(n: i32) -> usize {
-    match n {
-        errors::ENOENT => 1,
-        errors::EACCES => 2,
-        errors::EISDIR => 3,
-        errors::ENOTDIR => 4,
-        errors::ENAMETOOLONG => 5,
-        errors::EINVAL => 6,
-        errors::ELOOP => 7,
-        errors::EIO => 8,
-        _ => 0,
+    match x.reason {
+        Reason::UnassignedPair
+        | Reason::ValueRange
+        | Reason::HltMisplaced
+        | Reason::Structure
+        | Reason::HedZero => {
+            let first = fields::byte_at(file, x.place);
+            let second = fields::byte_at(file, x.place.wrapping_add(1));
+            write!(out, "{} at place {} ", x.reason.number(), x.place)?;
+            write!(out, "({first:02X} {second:02X}): {}", Phrase(x.reason))
+        }
+        _ => refusal(out, x),
     }
 }
 
 // Why a file is not opened or not read.
-pub fn error(out: &mut impl Write, n: i32) -> io::Result<()> {
-    let lines = b"the machine does not give it\n\
-        there is no such file\n\
-        no right to read it\n\
-        it is a folder\n\
-        a part of its path is no folder\n\
-        its name is too long\n\
-        its name cannot be a file's\n\
-        its links go round in a circle\n\
-        the disk or card does not give it\n";
-    write(out, fields::entry_at(lines, b'\n', error_line(n)))?;
-    Ok(())
+pub fn error_words(n: i32) -> &'static str {
+    match n {
+        errors::ENOENT => "there is no such file",
+        errors::EACCES => "no right to read it",
+        errors::EISDIR => "it is a folder",
+        errors::ENOTDIR => "a part of its path is no folder",
+        errors::ENAMETOOLONG => "its name is too long",
+        errors::EINVAL => "its name cannot be a file's",
+        errors::ELOOP => "its links go round in a circle",
+        errors::EIO => "the disk or card does not give it",
+        _ => "the machine does not give it",
+    }
 }
 
 pub fn usage(out: &mut impl Write) -> io::Result<()> {
-    write(
+    writeln!(
         out,
-        b"cardcheck reads the music files for a card, PSID, RSID, SAP and Sidplayer MUS, before it is pressed.\n",
+        "cardcheck reads the music files for a card, PSID, RSID, SAP and Sidplayer MUS, before it is pressed."
     )?;
-    write(out, b"use: cardcheck FILE..\n")?;
-    write(
+    writeln!(out, "use: cardcheck FILE..")?;
+    writeln!(
         out,
-        b"It prints a line for each file, that the panel takes it or why not, and how many were accepted.\n",
-    )?;
-    Ok(())
+        "It prints a line for each file, that the panel takes it or why not, and how many were accepted."
+    )
 }
 
 // The last line.
@@ -212,17 +138,14 @@ pub fn total(
     refused: usize,
     unreadable: usize,
 ) -> io::Result<()> {
-    write_number(out, accepted as u64)?;
-    write_after(out, b" accepted, ", refused as u64)?;
-    write_after(out, b" refused, ", unreadable as u64)?;
-    write(out, b" unreadable")?;
+    write!(out, "{accepted} accepted, {refused} refused, ")?;
+    write!(out, "{unreadable} unreadable: ")?;
     if (refused == 0) & (unreadable == 0) {
-        write(out, b": the card can be pressed\n")?;
+        writeln!(out, "the card can be pressed")
     } else {
-        write(
+        writeln!(
             out,
-            b": leave out or mend what is not accepted before the card is pressed\n",
-        )?;
+            "leave out or mend what is not accepted before the card is pressed"
+        )
     }
-    Ok(())
 }

@@ -3,15 +3,13 @@
 #![tactic(auto)]
 
 use card::Judged;
-use files::{Loaded, errors};
-use mus::Song;
-use printing::write;
+use files::{LoadError, errors};
 use refusals::Refusal;
-use sid::{Header, Kind};
 use std::env::{Env, FillError};
 use std::io;
 use std::io::Write;
 use std::rt::Files;
+use text::Name;
 
 mod lines;
 mod text;
@@ -31,101 +29,74 @@ const NAME: usize = 8192;
 // answer: the law `judged-held` of crates/card/specs/CutOff.antt.
 const FILE: usize = 131073;
 
-fn accept_tune(out: &mut impl Write, file: &[u8], h: Header) -> io::Result<Checked> {
-    lines::tune(out, file, h)?;
-    Ok(Checked::Accepted)
-}
-
-fn accept_sap(out: &mut impl Write, file: &[u8], h: sapheader::Header) -> io::Result<Checked> {
-    lines::sap(out, file, h)?;
-    Ok(Checked::Accepted)
-}
-
-fn accept_song(out: &mut impl Write, file: &[u8], song: Song) -> io::Result<Checked> {
-    lines::song(out, file, song)?;
-    Ok(Checked::Accepted)
-}
-
-fn refuse_tune(out: &mut impl Write, kind: Kind, x: Refusal) -> io::Result<Checked> {
-    lines::kind(out, kind)?;
-    write(out, b"refused ")?;
+// The end of a line of a file that is none of the four kinds.
+fn refuse_other(out: &mut impl Write, file: &[u8], x: Refusal) -> io::Result<()> {
+    let empty = if file.is_empty() { " empty," } else { "" };
+    write!(
+        out,
+        ":{empty} neither PSID, RSID, SAP nor MUS (as MUS refused "
+    )?;
     lines::refusal(out, x)?;
-    write(out, b"\n")?;
-    Ok(Checked::Refused)
+    write!(out, ")")
 }
 
-fn refuse_sap(out: &mut impl Write, x: Refusal) -> io::Result<Checked> {
-    write(out, b": SAP refused ")?;
-    lines::refusal(out, x)?;
-    write(out, b"\n")?;
-    Ok(Checked::Refused)
-}
-
-fn refuse_song(out: &mut impl Write, file: &[u8], x: Refusal) -> io::Result<Checked> {
-    write(out, b": MUS refused ")?;
-    lines::refusal_in_song(out, file, x)?;
-    write(out, b"\n")?;
-    Ok(Checked::Refused)
-}
-
-fn refuse_other(out: &mut impl Write, file: &[u8], x: Refusal) -> io::Result<Checked> {
-    if file.len() == 0 {
-        write(out, b": empty,")?;
-    } else {
-        write(out, b":")?;
+// The end of a line of a file that is refused.
+fn refuse(out: &mut impl Write, file: &[u8], judged: Judged) -> io::Result<Checked> {
+    match judged {
+        Judged::RefusedTune(kind, x) => {
+            write!(out, ": {} refused ", lines::format_of(kind))?;
+            lines::refusal(out, x)?;
+        }
+        Judged::RefusedSap(x) => {
+            write!(out, ": SAP refused ")?;
+            lines::refusal(out, x)?;
+        }
+        Judged::RefusedSong(x) => {
+            write!(out, ": MUS refused ")?;
+            lines::refusal_in_song(out, file, x)?;
+        }
+        Judged::Neither(x) => refuse_other(out, file, x)?,
+        Judged::Tune(_) | Judged::Sap(_) | Judged::Song(_) => {}
     }
-    write(out, b" neither PSID, RSID, SAP nor MUS (as MUS refused ")?;
-    lines::refusal(out, x)?;
-    write(out, b")\n")?;
+    writeln!(out)?;
     Ok(Checked::Refused)
 }
 
 fn check_file(out: &mut impl Write, name: &[u8], file: &[u8]) -> io::Result<Checked> {
-    text::show_name(out, name)?;
-    match card::judge(file) {
-        Judged::Tune(h) => accept_tune(out, file, h),
-        Judged::RefusedTune(kind, x) => refuse_tune(out, kind, x),
-        Judged::Sap(h) => accept_sap(out, file, h),
-        Judged::RefusedSap(x) => refuse_sap(out, x),
-        Judged::Song(song) => accept_song(out, file, song),
-        Judged::RefusedSong(x) => refuse_song(out, file, x),
-        Judged::Neither(x) => refuse_other(out, file, x),
+    write!(out, "{}", Name(name))?;
+    let judged = card::judge(file);
+    match judged {
+        Judged::Tune(h) => lines::tune(out, file, h)?,
+        Judged::Sap(h) => lines::sap(out, file, h)?,
+        Judged::Song(song) => lines::song(out, file, song)?,
+        _ => return refuse(out, file, judged),
     }
+    Ok(Checked::Accepted)
 }
 
-fn cannot(out: &mut impl Write, name: &[u8], what: &[u8], error: i32) -> io::Result<Checked> {
-    text::show_name(out, name)?;
-    write(out, what)?;
-    lines::error(out, error)?;
-    write(out, b"\n")?;
+// A file that is not opened or not read, and why.
+fn cannot(out: &mut impl Write, name: &[u8], what: &str, error: i32) -> io::Result<Checked> {
+    let why = lines::error_words(error);
+    writeln!(out, "{}{what}{why}", Name(name))?;
     Ok(Checked::Unreadable)
 }
 
-// A SAP file of which only a part is there: no answer of a part is given for the whole.
-fn not_looked_at(out: &mut impl Write, name: &[u8]) -> io::Result<Checked> {
-    text::show_name(out, name)?;
-    write(
-        out,
-        b": SAP not looked at: over 131,072 bytes, more than cardcheck holds\n",
-    )?;
-    Ok(Checked::Unreadable)
-}
-
-// What was read of a file.
+// What was read of a file. Of a SAP file of which only a part is there no answer is given for the whole.
 fn check_read(out: &mut impl Write, name: &[u8], file: &[u8]) -> io::Result<Checked> {
-    if card::is_cut_sap(file, FILE) {
-        not_looked_at(out, name)
-    } else {
-        check_file(out, name, file)
+    if !card::is_cut_sap(file, FILE) {
+        return check_file(out, name, file);
     }
+    let what = "SAP not looked at: over 131,072 bytes, more than cardcheck holds";
+    writeln!(out, "{}: {what}", Name(name))?;
+    Ok(Checked::Unreadable)
 }
 
 fn check_named(rt: &impl Files, out: &mut impl Write, name: &[u8]) -> io::Result<Checked> {
     let mut file = [0u8; FILE];
     match files::read_file(rt, name, &mut file) {
-        Loaded::NotOpened(error) => cannot(out, name, b": cannot be opened: ", error),
-        Loaded::NotRead(error) => cannot(out, name, b": cannot be read: ", error),
-        Loaded::Bytes(len) => check_read(out, name, fields::part(&file, 0, len)),
+        Ok(len) => check_read(out, name, fields::part(&file, 0, len)),
+        Err(LoadError::NotOpened(error)) => cannot(out, name, ": cannot be opened: ", error),
+        Err(LoadError::NotRead(error)) => cannot(out, name, ": cannot be read: ", error),
     }
 }
 
@@ -142,7 +113,7 @@ fn check_argument(
         Err(FillError::TooLong) => {
             // its first bytes are there
             let start = fields::part(&name, 0, 64);
-            let why = b"..: cannot be opened: ";
+            let why = "..: cannot be opened: ";
             Ok(Some(cannot(out, start, why, errors::ENAMETOOLONG)?))
         }
     }

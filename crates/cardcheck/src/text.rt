@@ -1,48 +1,33 @@
 // What is written, so that no byte of a file or a name upsets a terminal.
-use printing::{write, write_hex};
-use std::io;
-use std::io::Write;
+use std::fmt;
 
-// An address, $0000 to $FFFF.
-pub fn address(out: &mut impl Write, n: usize) -> io::Result<()> {
-    write(out, b"$")?;
-    write_hex(out, (n / 256 % 256) as u8)?;
-    write_hex(out, (n % 256) as u8)?;
-    Ok(())
-}
+// A text: a letter, digit or sign of ASCII as it is, any other byte as \xNN.
+#[derive(Clone, Copy)]
+pub struct Shown<'a>(pub &'a [u8]);
 
-// A byte of a text: a letter, digit or sign of ASCII as it is, any other as \xNN.
-fn show_byte(out: &mut impl Write, b: u8) -> io::Result<()> {
-    if (0x20 <= b) & (b <= 0x7E) & (b != b'\\') {
-        write(out, &[b])?;
-    } else {
-        write(out, b"\\x")?;
-        write_hex(out, b)?;
+impl fmt::Display for Shown<'_> {
+    fn fmt<W: fmt::Write>(&self, f: &mut fmt::Formatter<W>) -> fmt::Result {
+        for &byte in self.0 {
+            if (0x20 <= byte) & (byte <= 0x7E) & (byte != b'\\') {
+                f.write_char(byte as char)?;
+            } else {
+                write!(f, "\\x{byte:02X}")?;
+            }
+        }
+        Ok(())
     }
-    Ok(())
-}
-
-pub fn show(out: &mut impl Write, words: &[u8]) -> io::Result<()> {
-    for b in words {
-        show_byte(out, *b)?;
-    }
-    Ok(())
 }
 
 // A file's name, which a line begins with; of one that has no letter the quotation marks.
-pub fn show_name(out: &mut impl Write, name: &[u8]) -> io::Result<()> {
-    if name.len() == 0 {
-        write(out, b"\"\"")?;
-        Ok(())
-    } else {
-        show(out, name)
-    }
-}
+#[derive(Clone, Copy)]
+pub struct Name<'a>(pub &'a [u8]);
 
-// A text in quotation marks.
-pub fn quote(out: &mut impl Write, words: &[u8]) -> io::Result<()> {
-    write(out, b"\"")?;
-    show(out, words)?;
-    write(out, b"\"")?;
-    Ok(())
+impl fmt::Display for Name<'_> {
+    fn fmt<W: fmt::Write>(&self, f: &mut fmt::Formatter<W>) -> fmt::Result {
+        if self.0.is_empty() {
+            f.write_str("\"\"")
+        } else {
+            write!(f, "{}", Shown(self.0))
+        }
+    }
 }

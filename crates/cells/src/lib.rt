@@ -11,7 +11,8 @@ pub struct Cursor {
     pub filled: usize,
 }
 
-// internal: an event goes by. It is passed over, or its offset and jiffy fill the next cells.
+// internal: an event goes by. It is passed over, or its offset and jiffy fill the next cells. The lists stand
+// apart, as C lends them.
 pub fn put(
     cursor: Cursor,
     offset: u32,
@@ -22,19 +23,17 @@ pub fn put(
     requires { (cursor.filled < length offsets.old) × (cursor.filled < length jiffies.old) }
     ensures { (result ≡ cursor_after cursor) × (offsets.new ≡ cells_after cursor offset offsets.old) × (jiffies.new ≡ cells_after cursor jiffy jiffies.old) }
 {
-    let skip = cursor.skip;
-    let filled = cursor.filled;
-    if skip == 0 {
-        offsets[filled] = offset;
-        jiffies[filled] = jiffy;
+    if cursor.skip == 0 {
+        offsets[cursor.filled] = offset;
+        jiffies[cursor.filled] = jiffy;
         Cursor {
-            skip: 0,
-            filled: filled + 1,
+            filled: cursor.filled + 1,
+            ..cursor
         }
     } else {
         Cursor {
-            skip: skip - 1,
-            filled,
+            skip: cursor.skip - 1,
+            ..cursor
         }
     }
 }

@@ -1,15 +1,16 @@
--- The bytes that pass a test, counted from a place on. Assumes nothing.
--- Counted        what is counted up to a byte and what is still to be counted make the whole
--- counted-more   one byte more is counted
--- counted-closed, counted_all   the count has met a byte that does not pass, or the end
+-- The bytes that pass a test, from a place on. Assumes nothing.
 -- none_past      past the end nothing is counted
-use Prim.Native.Nat.{ℕ, ◌+◌, ◌-◌, ◌<◌, ◌≤◌}
-use mathlib.Core.Path.{◌≡◌, ap}
+-- none_here      nor at a byte that does not pass
+-- one_here       a byte that passes is the first that is counted
+-- taken          they are what `take_while` gives
+use Prim.Native.Nat.{ℕ, ◌+◌, ◌<◌, ◌≤◌}
+use mathlib.Core.Path.{◌≡◌, refl, ◌∙◌}
 use mathlib.Core.Bool.{Bool, true, false}
 use mathlib.Core.List.{List, [], ◌∷◌}
-use native.Mathlib.Omega.{arith}
 use native.Mathlib.Numerals.{add-one}
-use lib.ListN.{length, drop, get_or, drop_of_length-le}
+use lib.ListN.{length, drop, take, get_or, drop_of_length-le}
+use Rattle.std.specs.List.{prefix_len}
+use Rattle.std.proofs.lemmas.List.Sums.{take_while-cons}
 use lib.Seq.{drop-cons}
 use Rattle.characters.specs.Characters.{leading}
 
@@ -26,16 +27,7 @@ module _ (p : ℕ → Bool) (f : List ℕ) where
   unfolding leading
   one_here n h e = rw (drop-cons f n 0 h, e, add-one n)
 
-  module _ (from : ℕ) where
-    abbrev pub Counted : ℕ → Type 0
-    Counted n = (from ≤ n) × (n ≤ length f) × (from + length (leading p (drop from f)) ≡ n + length (leading p (drop n f)))
-
-    module _ (n : ℕ) (c : Counted n) where
-      pub counted-closed : n < length f → p (get_or f n 0) ≡ false → n - from ≡ length (leading p (drop from f))
-      counted-closed h e = omega (arith, c.0, c.2, ap length (none_here n h e))
-
-      pub counted-more : n < length f → p (get_or f n 0) ≡ true → Counted (n + 1)
-      counted-more h e = (omega (arith, c.0), omega arith, omega (arith, c.2, ap length (one_here n h e)))
-
-      pub counted_all : length f ≤ n → length f - from ≡ length (leading p (drop from f))
-      counted_all h = omega (arith, c.0, c.1, c.2, ap length (none_past n h))
+pub taken : (p : ℕ → Bool) (s : List ℕ) → take (prefix_len p s) s ≡ leading p s
+unfolding leading
+taken p [] = refl
+taken p (b ∷ bs) = take_while-cons p b bs ∙ rw (taken p bs)

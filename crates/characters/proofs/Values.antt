@@ -1,15 +1,13 @@
 -- The number of digits that are read one by one, with a stop at `most`. Assumes nothing.
 -- grows          a number does not fall as digits are added
 -- stopped        a number that has been stopped stays stopped
--- Read, read_more, read_all   the number read so far, one digit more, and all of them
--- digits-made, digits_none    the answer of two numbers, and of no digits
--- product-fits   the product with the base fits 32 bits
+-- Read, read_none, read_more, read_all   the number read so far, of no digits, of one more, and of all
 use Prim.Native.Nat.{ℕ, ◌+◌, ◌*◌, ◌<◌, ◌≤◌, min}
-use mathlib.Core.Path.{◌≡◌, subst, ◌∙◌}
+use mathlib.Core.Path.{◌≡◌, refl, ap, subst, ◌∙◌}
 use mathlib.Core.Bool.{true}
 use mathlib.Core.List.{List, [], ◌∷◌}
 use native.Mathlib.Omega.{arith}
-use native.Mathlib.Nat.{le-mul_of_pos_right, mul-le-mul}
+use native.Mathlib.Nat.{le-mul_of_pos_right}
 use lib.Dec.{leb}
 use lib.ListN.{length, drop, get_or}
 use borrow.Author.Tests.{leb-true, leb-false}
@@ -33,41 +31,39 @@ module _ (base : ℕ) where
         let same : min n c ≡ c = omega arith in
         rw same (omega (arith, grows c s, grows n s)))
 
-  -- two numbers that are those of the digits make the answer
-  pub digits-made : (len value : ℕ) (s : List ℕ) → len ≡ length (leading (is_digit base) s)
-      → value ≡ min (number_of base (leading (is_digit base) s)) most → record { len = len; value = value } ≡ digits_of base s
-  unfolding digits_of
-  digits-made len value s l v = rw (l, v)
-
-  -- of no digits
-  pub digits_none : (s : List ℕ) → leading (is_digit base) s ≡ [] → record { len = 0; value = 0 } ≡ digits_of base s
-  unfolding digits_of number_from
-  digits_none s e = rw e
-
--- the number read so far, with the digits still to be read, makes the whole
-pub record Read (base : ℕ) (f : List ℕ) (from value n : ℕ) : Type 0 where
+-- the number of the digits read so far, with the digits still to be read, makes the whole
+pub record Read (base : ℕ) (s : List ℕ) (value n : ℕ) : Type 0 where
   pub small : value ≤ most
-  pub whole : min (number_from base value (leading (is_digit base) (drop n f))) most ≡ min (number_of base (leading (is_digit base) (drop from f))) most
+  pub count : length (leading (is_digit base) s) ≡ n + length (leading (is_digit base) (drop n s))
+  pub whole : min (number_from base value (leading (is_digit base) (drop n s))) most ≡ min (number_of base (leading (is_digit base) s)) most
 
-module _ {base : ℕ} {f : List ℕ} {from value n : ℕ} (r : Read base f from value n) where
+-- nothing is read yet
+pub read_none : (base : ℕ) (s : List ℕ) → Read base s 0 0
+read_none base s = record { small = omega arith; count = omega arith; whole = refl }
+
+module _ {base : ℕ} {s : List ℕ} {value n : ℕ} (r : Read base s value n) where
   -- the same of any digits still to be read
   abbrev Whole : List ℕ → Type 0
-  Whole l = min (number_from base value l) most ≡ min (number_of base (leading (is_digit base) (drop from f))) most
+  Whole l = min (number_from base value l) most ≡ min (number_of base (leading (is_digit base) s)) most
 
-  pub read_more : (next : ℕ) → 0 < base → n < length f → is_digit base (get_or f n 0) ≡ true
-      → next ≡ min (value * base + digit_value (get_or f n 0)) most → Read base f from next (n + 1)
+  pub read_more : (next : ℕ) → 0 < base → n < length s → is_digit base (get_or s n 0) ≡ true
+      → next ≡ min (value * base + digit_value (get_or s n 0)) most → Read base s next (n + 1)
   unfolding number_from
   read_more next h k e is =
-      let x = value * base + digit_value (get_or f n 0) in
-      let later = leading (is_digit base) (drop (n + 1) f) in
+      let x = value * base + digit_value (get_or s n 0) in
+      let later = leading (is_digit base) (drop (n + 1) s) in
+      let here = one_here (is_digit base) s n k e in
       record {
         small = omega arith;
-        whole = rw is (stopped base h most x later ∙ subst Whole (one_here (is_digit base) f n k e) r.whole);
+        count = omega (arith, r.count, ap length here);
+        whole = rw is (stopped base h most x later ∙ subst Whole here r.whole);
       }
 
-  pub read_all : leading (is_digit base) (drop n f) ≡ [] → value ≡ min (number_of base (leading (is_digit base) (drop from f))) most
-  unfolding number_from
-  read_all e = let all = subst Whole e r.whole in omega (arith, r.small, all)
-
-  pub product-fits : base ≤ 16 → value * base ≤ 0xFFFFFF * 16
-  product-fits k = mul-le-mul r.small k
+  -- no digit is left
+  pub read_all : (len : ℕ) → len ≡ n → leading (is_digit base) (drop n s) ≡ [] → record { len = len; value = value } ≡ digits_of base s
+  unfolding number_from digits_of
+  read_all len is e =
+      let all = subst Whole e r.whole in
+      let count : len ≡ length (leading (is_digit base) s) = omega (arith, is, r.count, ap length e) in
+      let number : value ≡ min (number_of base (leading (is_digit base) s)) most = omega (arith, r.small, all) in
+      rw (count, number)

@@ -1,15 +1,15 @@
-// Characters in lent bytes: the digits, the text and the words that stand at a place, each found in one pass.
-// A place past the end has no byte.
+// Characters at the front of lent bytes: the digits, the text and the words that stand there, each found in
+// one pass.
 #![tactic(auto)]
 
-ghost use Rattle.std.specs.Prelude.{◌≡◌, ◌<◌, ◌≤◌, ◌^◌, min, length, drop};
+ghost use Rattle.std.specs.Prelude.{◌≡◌, ◌<◌, ◌≤◌, length, drop};
 ghost use Rattle.characters.specs.Characters.{digit_value, is_text_character, leading, stands, digits_of};
 
 // Greater than every number that a caller compares with; a greater number is given as this one.
 pub const MOST: u32 = 0xFFFFFF;
 
-// How many digits stand at a place, and their number, or MOST where it is greater.
-#[derive(Clone, Copy)]
+// How many digits stand at the front of bytes, and their number, or MOST where it is greater.
+#[derive(Clone, Copy, Debug, PartialEq, Eq)]
 pub struct Digits {
     pub len: usize,
     pub value: u32,
@@ -28,66 +28,53 @@ fn digit_value(b: u8) -> u32
     16
 }
 
-fn lesser(a: u32, b: u32) -> u32
-    ensures { result ≡ min a b }
+// Whether a byte may stand in a text.
+fn is_text_character(b: u8) -> bool
+    ensures { result ≡ is_text_character b }
 {
-    if a <= b { a } else { b }
+    ((0x20 <= b) & (b <= 0x5F) | (0x61 <= b) & (b <= 0x7A) | (b == 0x7C)) & !(b == 0x22)
 }
 
-// internal: the digits of a base that stand at a place.
-pub fn digits_at(file: &[u8], at: usize, base: u32) -> Digits
+// internal: the bytes from the nth on; none where there are fewer.
+pub fn after(bytes: &[u8], n: usize) -> &[u8]
+    ensures { result.now ≡ drop n bytes.now }
+{
+    if n <= bytes.len() { &bytes[n..] } else { &[] }
+}
+
+// internal: the digits of a base that stand at the front of bytes.
+pub fn digits_of(bytes: &[u8], base: u32) -> Digits
     requires { (0 < base) × (base ≤ 16) }
-    ensures { result ≡ digits_of base (drop at file.now) }
+    ensures { result ≡ digits_of base bytes.now }
 {
-    if file.len() <= at {
-        return Digits { len: 0, value: 0 };
-    }
-    let mut value = 0;
-    let mut n = at;
-    while n < file.len() {
-        let digit = digit_value(file[n]);
+    let mut digits = Digits { len: 0, value: 0 };
+    for &b in bytes {
+        let digit = digit_value(b);
         if base <= digit {
-            return Digits { len: n - at, value };
+            return digits;
         }
-        value = lesser(value * base + digit, MOST);
-        n += 1;
+        digits.value = (digits.value * base + digit).min(MOST);
+        digits.len += 1;
     }
-    Digits {
-        len: file.len() - at,
-        value,
-    }
+    digits
 }
 
-// internal: how many characters of a text stand at a place.
-pub fn text_length(file: &[u8], at: usize) -> usize
-    ensures { result ≡ length (leading is_text_character (drop at file.now)) }
+// internal: how many characters of a text stand at the front of bytes.
+pub fn text_length(bytes: &[u8]) -> usize
+    ensures { result ≡ length (leading is_text_character bytes.now) }
 {
-    if file.len() <= at {
-        return 0;
-    }
-    let mut n = at;
-    while n < file.len() {
-        let b = file[n];
-        let plain = (0x20 <= b) & (b <= 0x5F) | (0x61 <= b) & (b <= 0x7A) | (b == 0x7C);
-        if !(plain & !(b == 0x22)) {
-            return n - at;
-        }
-        n += 1;
-    }
-    file.len() - at
+    bytes.iter().take_while(|&&b| is_text_character(b)).count()
 }
 
-// internal: whether a word stands at a place. A byte past the end counts as 0, which no word has.
-pub fn stands_at(file: &[u8], at: usize, word: &[u8]) -> bool
-    requires { at < 2 ^ 63 }
-    ensures { result ≡ stands word.now (drop at file.now) }
+// internal: whether a word stands at the front of bytes. A byte past the end counts as 0, which no word has;
+// so `starts_with` would answer otherwise for a word with a 0 in it.
+pub fn stands(word: &[u8], bytes: &[u8]) -> bool
+    ensures { result ≡ stands word.now bytes.now }
 {
-    let mut n = 0;
-    while n < word.len() {
-        if fields::byte_at(file, at + n) != word[n] {
+    for (n, &b) in word.iter().enumerate() {
+        if fields::byte_at(bytes, n) != b {
             return false;
         }
-        n += 1;
     }
     true
 }

@@ -45,23 +45,14 @@ pub fn values_after(values: Values, first: u8, second: u8) -> Values
     if first % 4 == 0 {
         return values;
     }
-    let n = second as u16;
+    let n = u16::from(second);
     match first {
         0x06 => Values {
             tempo: if n == 0 { 256 } else { n },
-            utl: values.utl,
-            utv: values.utv,
+            ..values
         },
-        0x16 => Values {
-            tempo: values.tempo,
-            utl: n,
-            utv: values.utv,
-        },
-        0xF6 => Values {
-            tempo: values.tempo,
-            utl: values.utl,
-            utv: n,
-        },
+        0x16 => Values { utl: n, ..values },
+        0xF6 => Values { utv: n, ..values },
         _ => values,
     }
 }

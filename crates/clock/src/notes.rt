@@ -19,15 +19,11 @@ fn thirty_seconds(code: u8) -> u32
 fn twelfths(bit7: u8, bit5: u8) -> u32
     ensures { result ≡ twelfths_of bit7 bit5 }
 {
-    match bit7 {
-        0 => match bit5 {
-            0 => 12,
-            _ => 18,
-        },
-        _ => match bit5 {
-            0 => 8,
-            _ => 21,
-        },
+    match (bit7, bit5) {
+        (0, 0) => 12,
+        (0, _) => 18,
+        (_, 0) => 8,
+        _ => 21,
     }
 }
 
@@ -35,12 +31,10 @@ fn twelfths(bit7: u8, bit5: u8) -> u32
 fn utility_length(values: Values, bit7: u8, bit5: u8) -> u32
     ensures { result ≡ shaped (utility_of bit7 bit5).shape (plain_length values (utility_of bit7 bit5).duration) }
 {
-    match bit5 {
-        0 => match bit7 {
-            0 => 384 * values.utl as u32,
-            _ => 256 * values.utl as u32,
-        },
-        _ => 384 * values.utv as u32,
+    match (bit7, bit5) {
+        (0, 0) => 384 * u32::from(values.utl),
+        (_, 0) => 256 * u32::from(values.utl),
+        _ => 384 * u32::from(values.utv),
     }
 }
 
@@ -54,13 +48,11 @@ pub fn note_length(values: Values, first: u8) -> u32
     let bit7 = first / 128;
     let bit5 = first / 32 % 2;
     let code = first / 4 % 8;
-    let tempo = values.tempo as u32;
-    match code {
-        0 => match bit7 {
-            0 => 6 * tempo,
-            _ => 4 * tempo,
-        },
-        1 => utility_length(values, bit7, bit5),
+    let tempo = u32::from(values.tempo);
+    match (code, bit7) {
+        (0, 0) => 6 * tempo,
+        (0, _) => 4 * tempo,
+        (1, _) => utility_length(values, bit7, bit5),
         _ => thirty_seconds(code) * twelfths(bit7, bit5) * tempo,
     }
 }

@@ -27,7 +27,7 @@ use Rattle.meaning.specs.declared.Note.{Note}
 use Rattle.meaning.specs.declared.Bump.TheVariants.{Up, Down}
 use Rattle.meaning.specs.declared.Meaning.{Meaning}
 use Rattle.meaning.specs.declared.Meaning.TheVariants as M
-use Rattle.meaning.specs.Answers.{Bytes}
+use Rattle.meaning.specs.declared.Bytes.{Bytes}
 use Rattle.pair.specs.Pairs.{spelling_of}
 use Rattle.codes.specs.Coding.{count, signed, duration_digits, shape_digit, tie_digit, letter_digit, accidental_digit, tone_digits, note_code, code_of}
 use Rattle.decoding.specs.Tables.{lookup, durations, shapes, ties, letters, accidentals, above, below, unsigned_commands, negative_commands}

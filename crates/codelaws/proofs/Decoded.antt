@@ -26,7 +26,7 @@ use Rattle.codelaws.proofs.Decoding.{switched-right, bumped-right, bare-right, a
 found : {A : Type 0} (P : A → ℕ → Type 0) (es : List (Entry A)) (k : ℕ) → Each P es → Found P k (lookup es k)
 found P [] k h = (refl, refl)
 found P (e ∷ es) k h =
-    cases (eqb k e.digits) (λ q. rw q (subst (P e.value) (sym (eqb-true k e.digits q)) h.0)) (λ q. rw q (found P es k h.1))
+    cases (eqb k e.0) (λ q. rw q (subst (P e.1) (sym (eqb-true k e.0 q)) h.0)) (λ q. rw q (found P es k h.1))
 
 -- what comes after a part that was found; after one that a table has
 module _ {A B : Type 0} (P : A → ℕ → Type 0) (Q : B → ℕ → Type 0) where

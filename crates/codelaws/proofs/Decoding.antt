@@ -22,7 +22,7 @@ use Rattle.decoding.specs.Tables.{Entry, as_switch, as_bump, bare, above, below}
 
 abbrev pub Each : {A : Type 0} → (A → ℕ → Type 0) → List (Entry A) → Type 0
 Each P [] = Unit
-Each P (e ∷ es) = P e.value e.digits × Each P es
+Each P (e ∷ es) = P e.1 e.0 × Each P es
 
 -- of what is found, P; else it is 43, place 0
 abbrev pub Found : {A : Type 0} → (A → ℕ → Type 0) → ℕ → Outcome A → Type 0

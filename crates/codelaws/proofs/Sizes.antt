@@ -3,6 +3,7 @@
 -- SmallValue   the size of a value with a sign
 -- byte_small, jif-small, dtn-small, tps-small, rtp-small   with one
 -- tone-small   a note's octave
+use Rattle.std.specs.Prelude.{Option, Some, None}
 use Prim.Native.Nat.{ℕ, ◌+◌, ◌*◌, ◌-◌, ◌/◌, ◌%◌, ◌≤◌}
 use mathlib.Core.Path.{◌≡◌, refl}
 use mathlib.Core.Bool.{Bool, true, false, ◌&&◌, ◌||◌, cond}
@@ -17,14 +18,11 @@ use Rattle.refusals.specs.Numbers.Outcome.{accepted}
 use Rattle.meaning.specs.declared.Note.{Note}
 use Rattle.meaning.specs.declared.Tone.{Tone}
 use Rattle.meaning.specs.declared.Tone.TheVariants.{Rest, Sounds}
-use Rattle.meaning.specs.Answers.{Bytes}
+use Rattle.meaning.specs.declared.Bytes.{Bytes}
 use Rattle.meaning.specs.Pitches.{in_tables}
 use Rattle.meaning.specs.Laws.{octave_low}
-use Rattle.note.specs.declared.Byte.{Byte}
-use Rattle.note.specs.declared.Byte.TheVariants.{Is, None}
 use Rattle.note.specs.Writing.{letter_number, accidental_bits, first_byte, tone_byte, note_spelling}
 use Rattle.note.specs.Writing as note
-use Rattle.spelling.specs.declared.signs.Slot.TheVariants.{In, Out}
 use Rattle.spelling.specs.Counts.{pair, no_bytes, counted, phrase, destination, alone, joined, tempo}
 use Rattle.spelling.specs.Signs.{of_slot, spelled_signed, jif, dtn, tps, rtp}
 
@@ -71,7 +69,7 @@ SmallValue (pos n) = n ≤ 65535
 SmallValue (negsuc n) = n + 1 ≤ 65535
 
 -- a value that has a slot is small
-slotted : (t : Bool) (n : ℕ) (f : ℕ → Outcome Bytes) {y : Bytes} → of_slot f (cond t (In n) Out) ≡ accepted y → t ≡ true
+slotted : (t : Bool) (n : ℕ) (f : ℕ → Outcome Bytes) {y : Bytes} → of_slot f (cond t (Some n) None) ≡ accepted y → t ≡ true
 slotted true n f e = refl
 slotted false n f e = absurd (none_written e)
 
@@ -100,15 +98,15 @@ SmallTone Rest = Unit
 SmallTone (Sounds p) = p.octave ≤ 7
 
 -- a note's second byte that is written only under a test
-paired : (t : Bool) (n : ℕ) (a : Byte) {y : Bytes} → note.two_bytes a (cond t (Is n) None) ≡ accepted y → t ≡ true
+paired : (t : Bool) (n : ℕ) (a : Option ℕ) {y : Bytes} → note.two_bytes a (cond t (Some n) None) ≡ accepted y → t ≡ true
 paired true n a e = refl
 paired false n None e = absurd (none_written e)
-paired false n (Is b) e = absurd (none_written e)
+paired false n (Some b) e = absurd (none_written e)
 
 pub tone-small : (n : Note) {y : Bytes} → note_spelling n ≡ accepted y → SmallTone n.tone
 tone-small n {y} e = go n.tone (first_byte n.duration n.shape n.tied) e
   where
-    go : (t : Tone) (a : Byte) → note.two_bytes a (tone_byte t) ≡ accepted y → SmallTone t
+    go : (t : Tone) (a : Option ℕ) → note.two_bytes a (tone_byte t) ≡ accepted y → SmallTone t
     go Rest a q = tt
     go (Sounds p) a q =
         octave_low p (paired (in_tables p) (accidental_bits p.accidental + 8 * (7 - p.octave) + letter_number p.letter) a q)

@@ -4,6 +4,8 @@ ghost use Rattle.codes.specs.Coding.{duration_digits, shape_digit, letter_digit,
 
 use meaning::{Accidental, Duration, Letter, Note, Shape, Tone};
 
+// A match for each digit, and no discriminants: the types stand in `meaning`, and each has other numbers too,
+// as a pair's bits in `note`.
 fn duration_digits(duration: Duration) -> u8
     ensures { result ≡ duration_digits duration }
 {
@@ -64,12 +66,9 @@ fn tone_digits(tone: Tone) -> u32
     match tone {
         Tone::Rest => 0,
         Tone::Sounds(pitch) => {
-            let letter = pitch.letter;
-            let accidental = pitch.accidental;
-            let octave = pitch.octave as u32;
-            letter_digit(letter) as u32 * 0x100
-                + accidental_digit(accidental) as u32 * 0x10
-                + octave
+            let letter = letter_digit(pitch.letter) as u32;
+            let accidental = accidental_digit(pitch.accidental) as u32;
+            letter * 0x100 + accidental * 0x10 + pitch.octave as u32
         }
     }
 }
@@ -78,17 +77,9 @@ fn tone_digits(tone: Tone) -> u32
 pub fn note_code(note: Note) -> u64
     ensures { result ≡ note_code note }
 {
-    let duration = note.duration;
-    let shape = note.shape;
-    let tied = note.tied;
-    let tone = note.tone;
-    let digits = duration_digits(duration) as u64;
-    let digit = shape_digit(shape) as u64;
-    let length = 0x10000000 + digits * 0x100000 + digit * 0x10000;
-    let pitch = tone_digits(tone) as u64;
-    if tied {
-        length + 0x1000 + pitch
-    } else {
-        length + pitch
-    }
+    let digits = duration_digits(note.duration) as u64;
+    let digit = shape_digit(note.shape) as u64;
+    let tie = note.tied as u64;
+    let pitch = tone_digits(note.tone) as u64;
+    0x10000000 + digits * 0x100000 + digit * 0x10000 + tie * 0x1000 + pitch
 }

@@ -13,7 +13,8 @@
 use Rattle.std.specs.Prelude.{ℕ, ◌+◌, ◌*◌, List, [], ◌∷◌, cond, eqb, leb}
 use Rattle.meaning.specs.declared.Meaning.{Meaning}
 use Rattle.meaning.specs.declared.Meaning.TheVariants.{Pw, Tem, Utl, Pnt, Hed, Flg, Ps, Fs, Vdp, Vrt, Aut, Aux, Pvd, Pvr, Max, Utv, Fc, Hld, Ms, Dtn, Por}
-use Rattle.refusals.specs.Numbers.{Outcome, number_of, unassigned_pair}
+use Rattle.refusals.specs.declared.Reason.TheVariants.{UnassignedPair}
+use Rattle.refusals.specs.Numbers.{Outcome, number_of}
 use Rattle.refusals.specs.Numbers.Outcome.{accepted, refused}
 use Rattle.commandtable.specs.Patterns.{Symbol, O, I, n, byte, fits, number}
 use Rattle.commandsigns.specs.Signs.{out_of_range, signed_byte, detuning_of, sca_outcome, tps_outcome, rtp_outcome, jif_outcome}
@@ -72,7 +73,7 @@ row_found [] a b else = else
 row_found (r ∷ rs) a b else = cond (fits r.pattern a) (r.means (number r.pattern a * 256 + b)) (row_found rs a b else)
 
 abbrev pub unassigned : Outcome Meaning
-unassigned = refused (number_of unassigned_pair) 0
+unassigned = refused (number_of UnassignedPair) 0
 
 abbrev pub joined_outcome : ℕ → ℕ → Outcome Meaning
 joined_outcome a b = row_found joined_rows a b unassigned

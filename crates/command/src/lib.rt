@@ -2,16 +2,17 @@
 #![tactic(auto)]
 
 ghost use Rattle.std.specs.Prelude.{◌≡◌};
-ghost use Rattle.meaning.specs.Answers.{outcome_of_meaning};
+ghost use Rattle.refusals.specs.Numbers.{outcome_of};
 ghost use Rattle.command.specs.Pair.{command_outcome};
 
-use meaning::Reading;
+use meaning::Meaning;
+use refusals::Refusal;
 
 mod others;
 
 // internal: the command of a pair whose first byte's low bits are not 00, or 27 or 28.
-pub fn read_command(first: u8, second: u8) -> Reading
-    ensures { outcome_of_meaning result ≡ command_outcome first second }
+pub fn read_command(first: u8, second: u8) -> Result<Meaning, Refusal>
+    ensures { outcome_of result ≡ command_outcome first second }
 {
     if first == 1 {
         commandtable::read_second(second)

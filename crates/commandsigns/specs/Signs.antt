@@ -12,11 +12,12 @@ use Rattle.std.proofs.Math.IntN.{sub_ℕ}
 use Rattle.std.specs.Int.Signed.{le_z}
 use Rattle.meaning.specs.declared.Meaning.{Meaning}
 use Rattle.meaning.specs.declared.Meaning.TheVariants.{Sca, Tps, Rtp, Jif}
-use Rattle.refusals.specs.Numbers.{Outcome, number_of, value_range}
+use Rattle.refusals.specs.declared.Reason.TheVariants.{ValueRange}
+use Rattle.refusals.specs.Numbers.{Outcome, number_of}
 use Rattle.refusals.specs.Numbers.Outcome.{accepted, refused}
 
 abbrev pub out_of_range : Outcome Meaning
-out_of_range = refused (number_of value_range) 0
+out_of_range = refused (number_of ValueRange) 0
 
 abbrev pub signed_byte : ℕ → ℤ
 signed_byte b = sub_ℕ b (cond (ltb b 128) 0 256)

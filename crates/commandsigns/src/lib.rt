@@ -2,11 +2,11 @@
 #![tactic(auto)]
 
 ghost use Rattle.std.specs.Prelude.{◌≡◌};
-ghost use Rattle.meaning.specs.Answers.{outcome_of_meaning};
-ghost use Rattle.commandsigns.specs.Signs.{out_of_range, signed_byte, detuning_of, sca_outcome, tps_outcome, rtp_outcome, jif_outcome};
+ghost use Rattle.refusals.specs.Numbers.{outcome_of};
+ghost use Rattle.commandsigns.specs.Signs.{signed_byte, detuning_of, sca_outcome, tps_outcome, rtp_outcome, jif_outcome};
 
-use meaning::{Meaning, Reading};
-use refusals::Refusal;
+use meaning::Meaning;
+use refusals::{Reason, Refusal};
 
 // internal: a byte whose bit 7 is the sign.
 pub fn signed_byte(n: u16) -> i32
@@ -30,64 +30,58 @@ pub fn detuning(n: u16, sign: u16) -> i32
     }
 }
 
-fn out_of_range() -> Reading
-    ensures { outcome_of_meaning result ≡ out_of_range }
-{
-    Reading::Refused(Refusal::unplaced(refusals::VALUE_RANGE))
-}
-
 // internal: SCA of its second byte, or 28.
-pub fn read_sca(second: u8) -> Reading
-    ensures { outcome_of_meaning result ≡ sca_outcome second }
+pub fn read_sca(second: u8) -> Result<Meaning, Refusal>
+    ensures { outcome_of result ≡ sca_outcome second }
 {
     if (second <= 7) | (249 <= second) {
-        Reading::Means(Meaning::Sca(signed_byte(second as u16)))
+        Ok(Meaning::Sca(signed_byte(second as u16)))
     } else {
-        out_of_range()
+        Err(Reason::ValueRange.into())
     }
 }
 
 // internal: TPS of its second byte, or 28. Bit 0 is the sign; half-steps below an octave stand in bits 7-4,
 // octaves in bits 3-1, both counted from the other end for one of the signs.
-pub fn read_tps(second: u8) -> Reading
-    ensures { outcome_of_meaning result ≡ tps_outcome second }
+pub fn read_tps(second: u8) -> Result<Meaning, Refusal>
+    ensures { outcome_of result ≡ tps_outcome second }
 {
     let steps = second as u16 / 16;
     let octaves = second as u16 / 2 % 8;
     if 11 < steps {
-        return out_of_range();
+        return Err(Reason::ValueRange.into());
     }
     if second % 2 == 0 {
-        Reading::Means(Meaning::Tps(signed::less(12 * (7 - octaves) + steps, 0)))
+        Ok(Meaning::Tps(signed::less(12 * (7 - octaves) + steps, 0)))
     } else {
-        Reading::Means(Meaning::Tps(signed::less(0, 12 * octaves + 11 - steps)))
+        Ok(Meaning::Tps(signed::less(0, 12 * octaves + 11 - steps)))
     }
 }
 
 // internal: RTP of its second byte, or 28. The value 12 × (3 - octaves) + (steps - 11) is counted from the
 // least, -59, so that it stays unsigned.
-pub fn read_rtp(second: u8) -> Reading
-    ensures { outcome_of_meaning result ≡ rtp_outcome second }
+pub fn read_rtp(second: u8) -> Result<Meaning, Refusal>
+    ensures { outcome_of result ≡ rtp_outcome second }
 {
     let steps = second as u16 / 8;
     let octaves = second as u16 % 8;
     let above = 12 * (7 - octaves) + steps;
     if (22 < steps) | (above < 12) {
-        out_of_range()
+        Err(Reason::ValueRange.into())
     } else {
-        Reading::Means(Meaning::Rtp(signed::less(above, 59)))
+        Ok(Meaning::Rtp(signed::less(above, 59)))
     }
 }
 
 // internal: JIF of its ten bits, or 28.
-pub fn read_jif(n: u16) -> Reading
-    ensures { outcome_of_meaning result ≡ jif_outcome n }
+pub fn read_jif(n: u16) -> Result<Meaning, Refusal>
+    ensures { outcome_of result ≡ jif_outcome n }
 {
     if n <= 757 {
-        return Reading::Means(Meaning::Jif(signed::less(n, 0)));
+        return Ok(Meaning::Jif(signed::less(n, 0)));
     }
     if n <= 823 {
-        return out_of_range();
+        return Err(Reason::ValueRange.into());
     }
-    Reading::Means(Meaning::Jif(signed::less(n, 1024)))
+    Ok(Meaning::Jif(signed::less(n, 1024)))
 }

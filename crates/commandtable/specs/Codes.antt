@@ -9,15 +9,15 @@
 -- rows                      the table as it holds: that least number is 0, which is phrase 16
 -- fits_row                   whether a byte fits a row, with a number that the row may have
 -- CommandValue, second_by, second_means   a second byte's command and value: those of the row that it fits
--- bump_of, command_meaning    what a command and its value mean
+-- command_meaning            what a command and its value mean
 -- second_from                the meaning of 01 and a second byte, or 27, by the rows from a least number
 -- second_outcome             the same by the table as it holds
 use Rattle.std.specs.Prelude.{ℕ, ◌+◌, Bool, ◌&&◌, cond, List, [], ◌∷◌, eqb, leb}
-use Rattle.meaning.specs.declared.Bump.{Bump}
-use Rattle.meaning.specs.declared.Bump.TheVariants.{Up, Down}
+use Rattle.meaning.specs.Bumps.{bump_of}
 use Rattle.meaning.specs.declared.Meaning.{Meaning}
 use Rattle.meaning.specs.declared.Meaning.TheVariants.{Dcy, Rup, Cal, Bmp, Flt, Rng, Snc, Fx, Def, Atk, Sus, Lfo, Pv, Rdn, Wav, Fm, Rls, Res, ThreeOff, Vol, Tal, End, Hlt, Src, Dst}
-use Rattle.refusals.specs.Numbers.{Outcome, number_of, unassigned_pair}
+use Rattle.refusals.specs.declared.Reason.TheVariants.{UnassignedPair}
+use Rattle.refusals.specs.Numbers.{Outcome, number_of}
 use Rattle.refusals.specs.Numbers.Outcome.{accepted, refused}
 use Rattle.commandtable.specs.Patterns.{Symbol, O, I, n, byte, fits, number}
 
@@ -104,9 +104,6 @@ second_by (r ∷ rs) b =
 abbrev pub second_means : ℕ → CommandValue
 second_means b = second_by rows b
 
-abbrev pub bump_of : ℕ → Bump
-bump_of v = cond (eqb v 0) Up Down
-
 abbrev pub command_meaning : Command → ℕ → Outcome Meaning
 command_meaning DCY v = accepted (Dcy v)
 command_meaning RUP v = accepted (Rup v)
@@ -133,7 +130,7 @@ command_meaning END v = accepted End
 command_meaning HLT v = accepted Hlt
 command_meaning SRC v = accepted (Src v)
 command_meaning DST v = accepted (Dst v)
-command_meaning none v = refused (number_of unassigned_pair) 0
+command_meaning none v = refused (number_of UnassignedPair) 0
 
 abbrev pub second_from : ℕ → ℕ → Outcome Meaning
 second_from least b = command_meaning (second_by (rows_from least) b).command (second_by (rows_from least) b).value

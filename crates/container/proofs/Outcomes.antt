@@ -8,8 +8,10 @@ use mathlib.Core.Path.{◌≡◌, ap}
 use mathlib.Core.List.{List}
 use native.Mathlib.Omega.{arith}
 use lib.ListN.{length}
+use Rattle.refusals.specs.declared.Reason.{Reason}
+use Rattle.refusals.specs.Numbers.{number_of}
 use Rattle.refusals.specs.Numbers.Outcome.{accepted, refused}
-use Rattle.refusals.specs.declared.Verdict.TheVariants.{Passed, Failed}
+use Rattle.std.specs.Prelude.{Ok, Err}
 use Rattle.refusals.specs.Tests.{first_of, guarded}
 use Rattle.refusals.specs.Laws.{none_passed, first_append}
 use Rattle.container.specs.declared.head.Head.{Head}
@@ -22,11 +24,11 @@ use Rattle.container.specs.Layout.{placed, text_in, layout_of, container_tests, 
 use Rattle.container.specs.Laws.{head_none, head-fits}
 
 module _ (f : List ℕ) (x : Head) (ex : x ≡ head_of f) where
-  pub numbers_failed : (n : ℕ) → first_of (head_tests x) ≡ Failed n → refused n 0 ≡ head_outcome f
+  pub numbers_failed : (r : Reason) → first_of (head_tests x) ≡ Err r → refused (number_of r) 0 ≡ head_outcome f
   unfolding head_outcome
-  numbers_failed n e = rw (← ex, e)
+  numbers_failed r e = rw (← ex, e)
 
-  pub numbers-passed : (v : Voices) → v ≡ voices_of x → first_of (head_tests x) ≡ Passed → accepted v ≡ head_outcome f
+  pub numbers-passed : (v : Voices) → v ≡ voices_of x → first_of (head_tests x) ≡ Ok tt → accepted v ≡ head_outcome f
   unfolding head_outcome
   numbers-passed v ev e = rw (← ex, e, ev)
 
@@ -43,8 +45,8 @@ module _ (f : List ℕ) (v : Voices) (ev : head_outcome f ≡ accepted v) (t : T
       let h = head_none f v ev in
       rw (first_append (head_tests (head_of f)) (text_tests (text_in f) (length f)), none_passed (head_tests (head_of f)) h.0, et, ← h.1)
 
-  pub text_failed : (n : ℕ) → first_of (text_tests t (length f)) ≡ Failed n → refused n 0 ≡ container_outcome f
-  text_failed n e = rw (by_text, e)
+  pub text_failed : (r : Reason) → first_of (text_tests t (length f)) ≡ Err r → refused (number_of r) 0 ≡ container_outcome f
+  text_failed r e = rw (by_text, e)
 
-  pub text-passed : (l : Layout) → l ≡ placed v t → first_of (text_tests t (length f)) ≡ Passed → accepted l ≡ container_outcome f
+  pub text-passed : (l : Layout) → l ≡ placed v t → first_of (text_tests t (length f)) ≡ Ok tt → accepted l ≡ container_outcome f
   text-passed l el e = rw (by_text, e, el)

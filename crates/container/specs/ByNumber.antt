@@ -7,9 +7,11 @@ use Rattle.std.proofs.Common.{sym, subst, arith, lit≤, lit<}
 use Rattle.logic.specs.Cases.{cases}
 use Rattle.refusals.specs.Numbers.{number_of}
 use Rattle.refusals.specs.Numbers.Outcome.{accepted, refused}
-use Rattle.refusals.specs.declared.Verdict.{Verdict}
-use Rattle.refusals.specs.declared.Verdict.TheVariants.{Passed, Failed}
-use Rattle.refusals.specs.Tests.{Test, first_of, guarded}
+use Rattle.refusals.specs.Tests.{Verdict}
+use Rattle.std.specs.Prelude.{Ok, Err}
+use Rattle.refusals.specs.declared.Reason.{Reason}
+use Rattle.refusals.specs.declared.Test.{Test}
+use Rattle.refusals.specs.Tests.{first_of, guarded}
 use Rattle.refusals.specs.Laws.{none_passed, first_append, two_ways}
 use Rattle.container.specs.declared.Voices.{Voices}
 use Rattle.container.specs.Head.{head_of, voices_of, head_tests, head_outcome}
@@ -23,20 +25,20 @@ module _ (P : ℕ → Type 0) where
   EachNumber (t ∷ ts) = P (number_of t.reason) × EachNumber ts
 
   -- What holds of the number of each test holds of the number with which the tests refuse.
-  pub first-each : (ts : List Test) → EachNumber ts → (n : ℕ) → first_of ts ≡ Failed n → P n
-  first-each [] h n e = absurd (let z : ◌≡◌ {A = ℕ} 0 1 = cc in omega arith)
-  first-each (t ∷ ts) h n e =
+  pub first-each : (ts : List Test) → EachNumber ts → (r : Reason) → first_of ts ≡ Err r → P (number_of r)
+  first-each [] h r e = absurd (let z : ◌≡◌ {A = ℕ} 0 1 = cc in omega arith)
+  first-each (t ∷ ts) h r e =
       cases t.applies
-      (λ b. let q = rw b at e in let is : number_of t.reason ≡ n = cc in subst P is h.0)
-      (λ b. first-each ts h.1 n (rw b at e))
+      (λ b. let q = rw b at e in let is : t.reason ≡ r = cc in subst (λ s. P (number_of s)) is h.0)
+      (λ b. first-each ts h.1 r (rw b at e))
 
 -- what tests before a value refuse, they refuse with their own number
 guarded-each : {A : Type 0} (P : ℕ → Type 0) (ts : List Test) (a : A) → EachNumber P ts → (n p : ℕ) → guarded (first_of ts) (accepted a) ≡ refused n p → P n
 guarded-each P ts a h n p e = go (first_of ts) refl e
   where
     go : (v : Verdict) → first_of ts ≡ v → guarded v (accepted a) ≡ refused n p → P n
-    go Passed q r = absurd (two_ways (sym r))
-    go (Failed m) q r = let is : m ≡ n = cc in subst P is (first-each P ts h m q)
+    go (Ok u) q r = absurd (two_ways (sym r))
+    go (Err m) q r = let is : number_of m ≡ n = cc in subst P is (first-each P ts h m q)
 
 -- The number with which the head of a file is refused is at most 24.
 pub head-number : (f : List ℕ) (n p : ℕ) → head_outcome f ≡ refused n p → n ≤ 24

@@ -6,19 +6,17 @@
 -- voices_of        where the voices lie, one after the other from byte 8 on
 -- voice_span       where the voice with a number lies
 -- head_tests       21 to 24, in the paper's order
--- outcome_of_head   the paper's number and values for each case of an answer
 -- head_outcome     the first of 21 to 24 that applies, else where the voices lie
 use Rattle.std.specs.Prelude.{ℕ, ◌+◌, ◌-◌, ◌%◌, Bool, ◌||◌, cond, List, [], ◌∷◌, length, ltb, eqb}
 use Rattle.refusals.specs.Numbers.{Outcome}
-use Rattle.refusals.specs.Numbers.Outcome.{accepted, refused}
-use Rattle.refusals.specs.Numbers.Reason.{mus_short, mus_past_memory, voice_length, voices_past_file}
-use Rattle.refusals.specs.Tests.{Test, test, first_of, guarded}
+use Rattle.refusals.specs.Numbers.Outcome.{accepted}
+use Rattle.refusals.specs.declared.Reason.TheVariants.{MusShort, MusPastMemory, VoiceLength, VoicesPastFile}
+use Rattle.refusals.specs.declared.Test.{Test}
+use Rattle.refusals.specs.Tests.{test, first_of, guarded}
 use Rattle.fields.specs.Numbers.{le16}
 use Rattle.fields.specs.declared.Span.{Span}
 use Rattle.container.specs.declared.head.Head.{Head}
 use Rattle.container.specs.declared.Voices.{Voices}
-use Rattle.container.specs.declared.Heading.{Heading}
-use Rattle.container.specs.declared.Heading.TheVariants.{Fits, Refused}
 
 unfoldable pub head_of : List ℕ → Head
 head_of f =
@@ -52,18 +50,14 @@ voice_span v n = cond (eqb n 1) v.voice1 (cond (eqb n 2) v.voice2 v.voice3)
 abbrev pub head_tests : Head → List Test
 head_tests x =
     -- 21: under 8 bytes
-    test mus_short (ltb x.size 8)
+    test MusShort (ltb x.size 8)
     -- 22: over 65,536 bytes, or address plus file length less 2 above 65,536
-    ∷ test mus_past_memory (ltb 65536 x.size || ltb 65536 (x.load + (x.size - 2)))
+    ∷ test MusPastMemory (ltb 65536 x.size || ltb 65536 (x.load + (x.size - 2)))
     -- 23: a voice length 0 or odd
-    ∷ test voice_length (bad_length x.len1 || bad_length x.len2 || bad_length x.len3)
+    ∷ test VoiceLength (bad_length x.len1 || bad_length x.len2 || bad_length x.len3)
     -- 24: voices run past the file
-    ∷ test voices_past_file (ltb x.size (voices_end x))
+    ∷ test VoicesPastFile (ltb x.size (voices_end x))
     ∷ []
-
-abbrev pub outcome_of_head : Heading → Outcome Voices
-outcome_of_head (Fits v) = accepted v
-outcome_of_head (Refused x) = refused x.number x.place
 
 unfoldable pub head_outcome : List ℕ → Outcome Voices
 head_outcome f = guarded (first_of (head_tests (head_of f))) (accepted (voices_of (head_of f)))

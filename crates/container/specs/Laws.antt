@@ -13,41 +13,33 @@
 -- text-whole                 what comes after the voices is five lines and a $00, and nothing more
 -- text-good                  the lines have 0 to 32 bytes, and neither $0D nor $00 is among them
 use Rattle.std.specs.Prelude.{ℕ, ◌+◌, ◌-◌, ◌%◌, ◌<◌, ◌≤◌, ◌≡◌, true, false, ◌||◌, List, [], length, drop, ltb, eqb}
-use Rattle.std.proofs.Common.{sym, ap, arith, drop_of_length-le}
+use Rattle.std.proofs.Common.{sym, arith, drop_of_length-le}
 use borrow.Author.Tests.{lt-ltb, le-ltb, ltb-false, eqb-false, not-false}
 use Rattle.logic.specs.Truth.{neither}
+use Rattle.refusals.specs.declared.Refusal.{Refusal}
+use Rattle.refusals.specs.Numbers.{outcome_of}
 use Rattle.refusals.specs.Numbers.Outcome.{accepted, refused}
-use Rattle.refusals.specs.declared.Verdict.{Verdict}
-use Rattle.refusals.specs.declared.Verdict.TheVariants.{Passed, Failed}
+use Rattle.refusals.specs.Tests.{Verdict}
+use Rattle.std.specs.Prelude.{Result, Ok, Err}
 use Rattle.refusals.specs.Tests.{None, first_of, guarded}
-use Rattle.refusals.specs.Laws.{passed_none, none_passed, guarded-accepted, first_failed, first_append, two_ways, refused-once}
+use Rattle.refusals.specs.Laws.{passed_none, none_passed, guarded-accepted, first_failed, first_append, two_ways, outcome-once}
 use Rattle.fields.specs.declared.Span.{Span}
 use Rattle.fields.specs.Parts.{part_of}
 use Rattle.container.specs.declared.Voices.{Voices}
 use Rattle.container.specs.declared.Layout.{Layout}
-use Rattle.container.specs.declared.Heading.{Heading}
-use Rattle.container.specs.declared.Heading.TheVariants as heading
-use Rattle.container.specs.declared.Container.{Container}
-use Rattle.container.specs.declared.Container.TheVariants as answer
-use Rattle.container.specs.Head.{head_of, bad_length, voices_end, voices_of, head_tests, outcome_of_head, head_outcome}
+use Rattle.container.specs.Head.{head_of, bad_length, voices_end, voices_of, head_tests, head_outcome}
 use Rattle.container.specs.Text.{line_start, line, text_fits, text_end, span_of_line, text_of, text_tests}
-use Rattle.container.specs.Layout.{text_in, layout_of, container_tests, outcome_of_layout, container_outcome}
+use Rattle.container.specs.Layout.{text_in, layout_of, container_tests, container_outcome}
 use Rattle.container.specs.TextLaws.{take-line}
 use Rattle.container.specs.TextForm.{text_form, GoodLines, text-split, lines-good}
 
 -- Two answers to a file's head that have one outcome are one answer.
-pub head-once : (a b : Heading) → outcome_of_head a ≡ outcome_of_head b → a ≡ b
-head-once (heading.Fits v) (heading.Fits w) e = let same : v ≡ w = cc in rw same
-head-once (heading.Fits v) (heading.Refused y) e = absurd (two_ways (sym e))
-head-once (heading.Refused x) (heading.Fits w) e = absurd (two_ways e)
-head-once (heading.Refused x) (heading.Refused y) e = ap heading.Refused (refused-once {X = Voices} x y e)
+pub head-once : (a b : Result Voices Refusal) → outcome_of a ≡ outcome_of b → a ≡ b
+head-once = outcome-once
 
 -- Two answers to a file's container that have one outcome are one answer.
-pub layout_once : (a b : Container) → outcome_of_layout a ≡ outcome_of_layout b → a ≡ b
-layout_once (answer.Fits l) (answer.Fits m) e = let same : l ≡ m = cc in rw same
-layout_once (answer.Fits l) (answer.Refused y) e = absurd (two_ways (sym e))
-layout_once (answer.Refused x) (answer.Fits m) e = absurd (two_ways e)
-layout_once (answer.Refused x) (answer.Refused y) e = ap answer.Refused (refused-once {X = Layout} x y e)
+pub layout_once : (a b : Result Layout Refusal) → outcome_of a ≡ outcome_of b → a ≡ b
+layout_once = outcome-once
 
 -- Where none of 21 to 26 applies, the file is accepted with its layout.
 pub none_layout : (f : List ℕ) → None (container_tests f) → container_outcome f ≡ accepted (layout_of f)
@@ -132,8 +124,8 @@ unfolding head_outcome container_outcome container_tests
 head_first f n p e = rw (first_append (head_tests (head_of f)) (text_tests (text_in f) (length f))) (go (first_of (head_tests (head_of f))) e)
   where
     go : (v : Verdict) → guarded v (accepted (voices_of (head_of f))) ≡ refused n p → guarded (first_failed v (first_of (text_tests (text_in f) (length f)))) (accepted (layout_of f)) ≡ refused n p
-    go Passed q = absurd (two_ways (sym q))
-    go (Failed m) q = cc
+    go (Ok u) q = absurd (two_ways (sym q))
+    go (Err m) q = cc
 
 -- Of a file to which none of 21 to 26 applies:
 module _ (f : List ℕ) (none : None (container_tests f)) where

@@ -4,17 +4,15 @@
 -- text_in             the text of a file
 -- layout_of           where everything lies
 -- container_tests     21 to 26 of a file, whole
--- outcome_of_layout    the paper's number and values for each case of an answer
 -- container_outcome   the first of 21 to 26 that applies, else the layout
 use Rattle.std.specs.Prelude.{ℕ, List, ◌++◌, length}
 use Rattle.refusals.specs.Numbers.{Outcome}
-use Rattle.refusals.specs.Numbers.Outcome.{accepted, refused}
-use Rattle.refusals.specs.Tests.{Test, first_of, guarded}
+use Rattle.refusals.specs.Numbers.Outcome.{accepted}
+use Rattle.refusals.specs.declared.Test.{Test}
+use Rattle.refusals.specs.Tests.{first_of, guarded}
 use Rattle.container.specs.declared.Voices.{Voices}
 use Rattle.container.specs.declared.text.Text.{Text}
 use Rattle.container.specs.declared.Layout.{Layout}
-use Rattle.container.specs.declared.Container.{Container}
-use Rattle.container.specs.declared.Container.TheVariants.{Fits, Refused}
 use Rattle.container.specs.Head.{head_of, voices_end, voices_of, head_tests}
 use Rattle.container.specs.Text.{text_of, text_tests}
 
@@ -40,10 +38,6 @@ layout_of f = placed (voices_of (head_of f)) (text_in f)
 
 unfoldable pub container_tests : List ℕ → List Test
 container_tests f = head_tests (head_of f) ++ text_tests (text_in f) (length f)
-
-abbrev pub outcome_of_layout : Container → Outcome Layout
-outcome_of_layout (Fits l) = accepted l
-outcome_of_layout (Refused x) = refused x.number x.place
 
 unfoldable pub container_outcome : List ℕ → Outcome Layout
 container_outcome f = guarded (first_of (container_tests f)) (accepted (layout_of f))

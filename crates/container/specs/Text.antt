@@ -14,8 +14,9 @@
 -- span_of_line, line_of, text_of   where a line lies, and what is known of a line and of the text
 -- text_tests                    25 and 26, in the paper's order
 use Rattle.std.specs.Prelude.{ℕ, zero, suc, ◌+◌, Bool, not, ◌&&◌, ◌||◌, cond, List, [], ◌∷◌, length, drop, get_or, ltb, leb, eqb}
-use Rattle.refusals.specs.Numbers.Reason.{text_lines, bytes_after_text}
-use Rattle.refusals.specs.Tests.{Test, test}
+use Rattle.refusals.specs.declared.Reason.TheVariants.{TextLines, BytesAfterText}
+use Rattle.refusals.specs.declared.Test.{Test}
+use Rattle.refusals.specs.Tests.{test}
 use Rattle.fields.specs.declared.Span.{Span}
 use Rattle.container.specs.declared.text.Line.{Line}
 use Rattle.container.specs.declared.text.Text.{Text}
@@ -79,7 +80,7 @@ text_of f at =
 abbrev pub text_tests : Text → ℕ → List Test
 text_tests t size =
     -- 25: not five lines and a $00
-    test text_lines (not t.fits)
+    test TextLines (not t.fits)
     -- 26: bytes after the text
-    ∷ test bytes_after_text (ltb t.end size)
+    ∷ test BytesAfterText (ltb t.end size)
     ∷ []

@@ -5,7 +5,7 @@ ghost use Rattle.container.specs.Head.{head_of, bad_length, voices_end, voices_o
 
 use crate::Voices;
 use fields::Span;
-use refusals::Verdict;
+use refusals::{Reason, Test};
 
 // The load address and the three voice lengths; size is the file's length.
 #[derive(Clone, Copy)]
@@ -49,7 +49,7 @@ fn voices_end(x: Head) -> usize
 }
 
 // internal: the tests of the numbers, 21 to 24.
-pub fn test_head(x: Head) -> Verdict
+pub fn test_head(x: Head) -> Result<(), Reason>
     ensures { result ≡ first_of (head_tests x) }
 {
     let size = x.size;
@@ -59,11 +59,24 @@ pub fn test_head(x: Head) -> Verdict
     let end = voices_end(x);
     // address plus length less 2, with the address on the other side, so that no sum can be too great
     let room = 65538 - x.load as usize;
-    Verdict::Passed
-        .test(size < 8, refusals::MUS_SHORT)
-        .test((65536 < size) | (room < size), refusals::MUS_PAST_MEMORY)
-        .test(bad1 | bad2 | bad3, refusals::VOICE_LENGTH)
-        .test(size < end, refusals::VOICES_PAST_FILE)
+    refusals::first_of(&[
+        Test {
+            reason: Reason::MusShort,
+            applies: size < 8,
+        },
+        Test {
+            reason: Reason::MusPastMemory,
+            applies: (65536 < size) | (room < size),
+        },
+        Test {
+            reason: Reason::VoiceLength,
+            applies: bad1 | bad2 | bad3,
+        },
+        Test {
+            reason: Reason::VoicesPastFile,
+            applies: size < end,
+        },
+    ])
 }
 
 // internal: the voices one after the other from byte 8 on.

@@ -3,11 +3,12 @@
 #![tactic(auto)]
 
 ghost use Rattle.std.specs.Prelude.{◌≡◌};
-ghost use Rattle.container.specs.Head.{outcome_of_head, head_outcome};
-ghost use Rattle.container.specs.Layout.{placed, outcome_of_layout, container_outcome};
+ghost use Rattle.refusals.specs.Numbers.{outcome_of};
+ghost use Rattle.container.specs.Head.{head_outcome};
+ghost use Rattle.container.specs.Layout.{placed, container_outcome};
 
 use fields::Span;
-use refusals::{Refusal, Verdict};
+use refusals::Refusal;
 use text::Text;
 
 mod head;
@@ -24,14 +25,8 @@ pub struct Voices {
     pub end: usize,
 }
 
-// The answer to a file's head.
-#[derive(Clone, Copy)]
-pub enum Heading {
-    Fits(Voices),
-    Refused(Refusal),
-}
-
-// Where everything lies in a file whose container is right.
+// Where everything lies in a file whose container is right. Fields and no arrays: these are fields of
+// `mus::Song` too, and laws of it name each of them.
 #[derive(Clone, Copy)]
 pub struct Layout {
     pub load: u16,
@@ -45,23 +40,14 @@ pub struct Layout {
     pub line5: Span,
 }
 
-// The answer to a file's container.
-#[derive(Clone, Copy)]
-pub enum Container {
-    Fits(Layout),
-    Refused(Refusal),
-}
-
 // internal: where the voices of a file lie, or the first of 21 to 24 that applies. Neither the voices nor
 // what comes after them is looked at.
-pub fn read_head(file: &[u8]) -> Heading
-    ensures { outcome_of_head result ≡ head_outcome file.now }
+pub fn read_head(file: &[u8]) -> Result<Voices, Refusal>
+    ensures { outcome_of result ≡ head_outcome file.now }
 {
     let x = head::read_numbers(file);
-    match head::test_head(x) {
-        Verdict::Failed(number) => Heading::Refused(Refusal::unplaced(number)),
-        Verdict::Passed => Heading::Fits(head::voices_of(x)),
-    }
+    head::test_head(x)?;
+    Ok(head::voices_of(x))
 }
 
 fn place(v: Voices, t: Text) -> Layout
@@ -89,17 +75,11 @@ fn place(v: Voices, t: Text) -> Layout
 }
 
 // internal: the container of a file, or the first of 21 to 26 that applies.
-pub fn read_container(file: &[u8]) -> Container
-    ensures { outcome_of_layout result ≡ container_outcome file.now }
+pub fn read_container(file: &[u8]) -> Result<Layout, Refusal>
+    ensures { outcome_of result ≡ container_outcome file.now }
 {
-    match read_head(file) {
-        Heading::Refused(x) => Container::Refused(x),
-        Heading::Fits(v) => {
-            let t = text::read_text(file, v.end);
-            match text::test_text(t, file.len()) {
-                Verdict::Failed(number) => Container::Refused(Refusal::unplaced(number)),
-                Verdict::Passed => Container::Fits(place(v, t)),
-            }
-        }
-    }
+    let v = read_head(file)?;
+    let t = text::read_text(file, v.end);
+    text::test_text(t, file.len())?;
+    Ok(place(v, t))
 }

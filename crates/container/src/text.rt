@@ -4,7 +4,7 @@ ghost use Rattle.refusals.specs.Tests.{first_of};
 ghost use Rattle.container.specs.Text.{line_at, line_of, text_of, text_tests};
 
 use fields::Span;
-use refusals::Verdict;
+use refusals::{Reason, Test};
 
 // A line: where it lies, whether it is right, and where the next begins.
 #[derive(Clone, Copy)]
@@ -33,13 +33,11 @@ fn line_end(file: &[u8], from: usize) -> usize
     if file.len() <= from {
         return from;
     }
-    let mut n = from;
-    while n < file.len() {
+    for n in from..file.len() {
         let b = file[n];
         if (b == 0x0D) | (b == 0) {
             return n;
         }
-        n += 1;
     }
     file.len()
 }
@@ -60,7 +58,8 @@ fn line_at(file: &[u8], from: usize) -> Line
     }
 }
 
-// internal: the text that begins at at.
+// internal: the text that begins at at. Five calls and no loop: each line has a field of its own, as in
+// `mus::Song`.
 pub fn read_text(file: &[u8], at: usize) -> Text
     requires { at < 2 ^ 63 }
     ensures { result ≡ text_of file.now at }
@@ -91,10 +90,17 @@ pub fn read_text(file: &[u8], at: usize) -> Text
 }
 
 // internal: the tests of the text, 25 and 26.
-pub fn test_text(t: Text, size: usize) -> Verdict
+pub fn test_text(t: Text, size: usize) -> Result<(), Reason>
     ensures { result ≡ first_of (text_tests t size) }
 {
-    Verdict::Passed
-        .test(!t.fits, refusals::TEXT_LINES)
-        .test(t.end < size, refusals::BYTES_AFTER_TEXT)
+    refusals::first_of(&[
+        Test {
+            reason: Reason::TextLines,
+            applies: !t.fits,
+        },
+        Test {
+            reason: Reason::BytesAfterText,
+            applies: t.end < size,
+        },
+    ])
 }

@@ -26,11 +26,12 @@ use Rattle.bodies.proofs.Related.{Relation, related-voice, length-copies, events
 use Rattle.bodies.proofs.OnePass.{one_pass_voice}
 use Rattle.tally.specs.declared.Counts.{Counts}
 use Rattle.counts.specs.declared.Extent.{Extent}
-use Rattle.counts.specs.declared.Counted.TheVariants.{Within, Off}
+use Rattle.std.specs.Prelude.{Err}
+use Rattle.refusals.specs.declared.Reason.TheVariants.{TooDeep, TooLong}
 use Rattle.tally.specs.Sums.{cap, join}
 use Rattle.counts.specs.Counting.{counting}
 use Rattle.counts.specs.Measures.{held_in, read_at, Measures}
-use Rattle.counts.specs.Limits.{count_outcome}
+use Rattle.counts.specs.Limits.{Within, count_outcome}
 use Rattle.bodies.proofs.Cells.{blank}
 use Rattle.counts.proofs.Kept.{none_held}
 
@@ -106,14 +107,14 @@ module _ (bs : List ℕ) (s : Sound (pairs bs)) where
   unfolding depth_of
   total-depth = ap (λ (c : Counts). c.depth) total-voice ∙ related-voice counting nesting (λ c d. c.depth ≡ d) depth-related v
 
-  pub too_deep_lem : 16 < total.depth → Off 32 ≡ count_outcome v
+  pub too_deep_lem : 16 < total.depth → Err TooDeep ≡ count_outcome v
   too_deep_lem h = rw (lt-ltb 16 (depth_of v) (omega (arith, total-depth)))
 
   module _ (m : Extent) (cells : List ℕ) (g : Measures bs (blank 24) 16 0 m cells) where
     shallow : ltb 16 (depth_of v) ≡ false
     shallow = le-ltb 16 (depth_of v) (let q = ap (λ (c : Counts). c.depth) g.counts in omega (arith, total-depth, g.low))
 
-    pub too_long_lem : (m.counts.walked ≤ 1048576 → ⊥) → Off 33 ≡ count_outcome v
+    pub too_long_lem : (m.counts.walked ≤ 1048576 → ⊥) → Err TooLong ≡ count_outcome v
     too_long_lem h =
         let q = ap (λ (c : Counts). c.walked) g.counts in
         rw (shallow, lt-ltb 1048576 (walked_of v) (omega (arith, total-walked)))

@@ -6,15 +6,13 @@
 -- Measures       what it says of a body that is not too deep: its counts, the pair that closes it, and what
 --                the cells hold then
 -- MeasureHolds   and of one that is: it is deeper than is allowed
-use Rattle.std.specs.Prelude.{ℕ, ◌+◌, ◌/◌, ◌<◌, ◌≤◌, ◌≡◌, List, length, get_or}
+use Rattle.std.specs.Prelude.{Option, Some, None, ℕ, ◌+◌, ◌/◌, ◌<◌, ◌≤◌, ◌≡◌, List, length, get_or}
 use Rattle.bodies.specs.Voice.{pairs}
 use Rattle.bodies.specs.Bodies.{outer}
 use Rattle.bodies.specs.Places.{open_at, body_at}
 use Rattle.bodies.specs.OnePass.{Read, reading}
 use Rattle.tally.specs.declared.Counts.{Counts}
 use Rattle.counts.specs.declared.Extent.{Extent}
-use Rattle.counts.specs.declared.Measured.{Measured}
-use Rattle.counts.specs.declared.Measured.TheVariants.{Body, TooDeep}
 use Rattle.counts.specs.Counting.{counting}
 use Rattle.tally.specs.Small.{Small, unpacked_counts}
 
@@ -44,6 +42,6 @@ pub record Measures (bs cells : List ℕ) (allowance from : ℕ) (m : Extent) (c
   pub low : m.counts.depth ≤ allowance
   pub cells_ready : Cells cells'
 
-abbrev pub MeasureHolds : List ℕ → List ℕ → ℕ → ℕ → List ℕ → Measured → Type 0
-MeasureHolds bs cells allowance from cells' (Body m) = Measures bs cells allowance from m cells'
-MeasureHolds bs cells allowance from cells' TooDeep = allowance < (read_at bs (held_in cells) from).total.depth
+abbrev pub MeasureHolds : List ℕ → List ℕ → ℕ → ℕ → List ℕ → Option Extent → Type 0
+MeasureHolds bs cells allowance from cells' (Some m) = Measures bs cells allowance from m cells'
+MeasureHolds bs cells allowance from cells' None = allowance < (read_at bs (held_in cells) from).total.depth

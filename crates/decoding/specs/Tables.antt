@@ -6,7 +6,6 @@
 -- durations, shapes, ties, letters, accidentals   a note's digits
 -- as_count, as_switch, as_bump, bare   what a command's value makes of it: a number; NO, YES; UP, DN; no
 --                    value
--- bump_at             UP or DN
 -- above, below       a number above and below 0
 -- unsigned_commands   the commands by number, of a value with sign digit 0
 -- negative_commands   those that a value below 0 can have, with sign digit 1
@@ -22,28 +21,28 @@ use Rattle.meaning.specs.declared.Letter.TheVariants.{C, D, E, F, G, A, B}
 use Rattle.meaning.specs.declared.Accidental.{Accidental}
 use Rattle.meaning.specs.declared.Accidental.TheVariants.{Flat, Natural, Sharp, DoubleSharp, DoubleFlat}
 use Rattle.meaning.specs.declared.Bump.{Bump}
-use Rattle.meaning.specs.declared.Bump.TheVariants.{Up, Down}
+use Rattle.meaning.specs.Bumps.{bump_of}
 use Rattle.meaning.specs.declared.Meaning.{Meaning}
 use Rattle.meaning.specs.declared.Meaning.TheVariants.{Dcy, Rup, Cal, Bmp, Flt, Rng, Snc, Fx, Def, Atk, Sus, Lfo, Pv}
 use Rattle.meaning.specs.declared.Meaning.TheVariants.{Rdn, Wav, Fm, Rls, Res, ThreeOff, Vol, Tal, End, Hlt, Src}
 use Rattle.meaning.specs.declared.Meaning.TheVariants.{Dst, Pw, Tem, Utl, Pnt, Hed, Flg, Ps, Fs, Sca, Vdp, Vrt, Aut}
 use Rattle.meaning.specs.declared.Meaning.TheVariants.{Tps, Aux, Pvd, Pvr, Max, Utv, Fc, Rtp, Hld, Ms, Jif, Dtn, Por}
-use Rattle.refusals.specs.Numbers.{Outcome, number_of, no_pair}
+use Rattle.refusals.specs.declared.Reason.TheVariants.{NoPair}
+use Rattle.refusals.specs.Numbers.{Outcome, number_of}
 use Rattle.refusals.specs.Numbers.Outcome.{accepted, refused}
 
 abbrev pub no_meaning : {A : Type 0} → Outcome A
-no_meaning = refused (number_of no_pair) 0
+no_meaning = refused (number_of NoPair) 0
 
-pub record Entry (A : Type 0) : Type 0 where
-  pub digits : ℕ
-  pub value : A
+abbrev pub Entry : Type 0 → Type 0
+Entry X = ℕ × X
 
 abbrev pub entry : {A : Type 0} → ℕ → A → Entry A
-entry k a = record { digits = k; value = a }
+entry k a = (k, a)
 
 abbrev pub lookup : {A : Type 0} → List (Entry A) → ℕ → Outcome A
 lookup [] k = no_meaning
-lookup (e ∷ es) k = cond (eqb k e.digits) (accepted e.value) (lookup es k)
+lookup (e ∷ es) k = cond (eqb k e.0) (accepted e.1) (lookup es k)
 
 abbrev pub durations : List (Entry Duration)
 durations =
@@ -77,11 +76,8 @@ as_count m v = accepted (m v)
 abbrev pub as_switch : (Bool → Meaning) → ℕ → Outcome Meaning
 as_switch m v = cond (leb v 1) (accepted (m (eqb v 1))) no_meaning
 
-abbrev pub bump_at : ℕ → Bump
-bump_at v = cond (eqb v 0) Up Down
-
 abbrev pub as_bump : (Bump → Meaning) → ℕ → Outcome Meaning
-as_bump m v = cond (leb v 1) (accepted (m (bump_at v))) no_meaning
+as_bump m v = cond (leb v 1) (accepted (m (bump_of v))) no_meaning
 
 abbrev pub bare : Meaning → ℕ → Outcome Meaning
 bare m v = cond (eqb v 0) (accepted m) no_meaning

@@ -1,73 +1,56 @@
 // The command of a code, 2CCSVVVV or 3CCSVVVV, by its number.
-ghost use Rattle.std.specs.Prelude.{◌≡◌, cond, leb};
+ghost use Rattle.std.specs.Prelude.{◌≡◌, cond};
+ghost use Rattle.refusals.specs.Numbers.{outcome_of};
 ghost use Rattle.refusals.specs.Numbers.Outcome.{accepted};
-ghost use Rattle.meaning.specs.Answers.{outcome_of_meaning};
-ghost use Rattle.decoding.specs.Tables.{no_meaning, bump_at, bare, unsigned_commands, negative_commands};
+ghost use Rattle.decoding.specs.Tables.{no_meaning, unsigned_commands, negative_commands};
 ghost use Rattle.decoding.specs.Decoding.{command_at};
 
-use meaning::{Bump, Meaning, Reading};
+use meaning::Meaning;
+use refusals::{Reason, Refusal};
 
-fn bump_at(v: u16) -> Bump
-    ensures { result ≡ bump_at v }
+// A command, where it can have its value.
+fn only(allowed: bool, meaning: Meaning) -> Result<Meaning, Refusal>
+    ensures { outcome_of result ≡ cond allowed (accepted meaning) no_meaning }
 {
-    match v {
-        0 => Bump::Up,
-        _ => Bump::Down,
-    }
-}
-
-// A command whose value is 0 or 1.
-fn up_to_1(v: u16, meaning: Meaning) -> Reading
-    ensures { outcome_of_meaning result ≡ cond (leb v 1) (accepted meaning) no_meaning }
-{
-    if v <= 1 {
-        Reading::Means(meaning)
+    if allowed {
+        Ok(meaning)
     } else {
-        crate::none()
-    }
-}
-
-// A command that has no value.
-fn without_value(v: u16, meaning: Meaning) -> Reading
-    ensures { outcome_of_meaning result ≡ bare meaning v }
-{
-    if v == 0 {
-        Reading::Means(meaning)
-    } else {
-        crate::none()
+        Err(Reason::NoPair.into())
     }
 }
 
 // internal: the command of a number with sign digit 0. One line a command, in source 004's order.
-pub fn unsigned_at(id: u32, v: u16) -> Reading
-    ensures { outcome_of_meaning result ≡ command_at unsigned_commands id v }
+pub fn unsigned_at(id: u32, v: u16) -> Result<Meaning, Refusal>
+    ensures { outcome_of result ≡ command_at unsigned_commands id v }
 {
-    let above = signed::less(v, 0);
+    let above = i32::from(v);
     let set = v == 1;
+    let up_to_1 = v <= 1;
+    let bare = v == 0;
     let command = match id {
         0x300 => Meaning::Dcy(v),
         0x301 => Meaning::Rup(v),
         0x302 => Meaning::Cal(v),
-        0x303 => return up_to_1(v, Meaning::Bmp(bump_at(v))),
-        0x313 => return up_to_1(v, Meaning::Flt(set)),
-        0x323 => return up_to_1(v, Meaning::Rng(set)),
-        0x333 => return up_to_1(v, Meaning::Snc(set)),
-        0x343 => return up_to_1(v, Meaning::Fx(set)),
+        0x303 => return only(up_to_1, Meaning::Bmp(v.into())),
+        0x313 => return only(up_to_1, Meaning::Flt(set)),
+        0x323 => return only(up_to_1, Meaning::Rng(set)),
+        0x333 => return only(up_to_1, Meaning::Snc(set)),
+        0x343 => return only(up_to_1, Meaning::Fx(set)),
         0x306 => Meaning::Def(v),
         0x304 => Meaning::Atk(v),
         0x384 => Meaning::Sus(v),
         0x363 => Meaning::Lfo(v),
-        0x373 => return up_to_1(v, Meaning::Pv(set)),
+        0x373 => return only(up_to_1, Meaning::Pv(set)),
         0x305 => Meaning::Rdn(v),
         0x307 => Meaning::Wav(v),
         0x317 => Meaning::Fm(v),
         0x308 => Meaning::Rls(v),
         0x30A => Meaning::Res(v),
-        0x35B => return up_to_1(v, Meaning::ThreeOff(set)),
+        0x35B => return only(up_to_1, Meaning::ThreeOff(set)),
         0x30E => Meaning::Vol(v),
-        0x30F => return without_value(v, Meaning::Tal),
-        0x32F => return without_value(v, Meaning::End),
-        0x34F => return without_value(v, Meaning::Hlt),
+        0x30F => return only(bare, Meaning::Tal),
+        0x32F => return only(bare, Meaning::End),
+        0x34F => return only(bare, Meaning::Hlt),
         0x31F => Meaning::Src(v),
         0x38F => Meaning::Dst(v),
         0x202 => Meaning::Pw(v),
@@ -95,16 +78,16 @@ pub fn unsigned_at(id: u32, v: u16) -> Reading
         0x23E => Meaning::Jif(above),
         0x20A => Meaning::Dtn(above),
         0x203 => Meaning::Por(v),
-        _ => return crate::none(),
+        _ => return Err(Reason::NoPair.into()),
     };
-    Reading::Means(command)
+    Ok(command)
 }
 
 // internal: the command of a number with sign digit 1.
-pub fn negative_at(id: u32, v: u16) -> Reading
-    ensures { outcome_of_meaning result ≡ command_at negative_commands id v }
+pub fn negative_at(id: u32, v: u16) -> Result<Meaning, Refusal>
+    ensures { outcome_of result ≡ command_at negative_commands id v }
 {
-    let below = signed::less(0, v);
+    let below = -i32::from(v);
     let command = match id {
         0x256 => Meaning::Ps(below),
         0x266 => Meaning::Fs(below),
@@ -114,7 +97,7 @@ pub fn negative_at(id: u32, v: u16) -> Reading
         0x22E => Meaning::Rtp(below),
         0x23E => Meaning::Jif(below),
         0x20A => Meaning::Dtn(below),
-        _ => return crate::none(),
+        _ => return Err(Reason::NoPair.into()),
     };
-    Reading::Means(command)
+    Ok(command)
 }

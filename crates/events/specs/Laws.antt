@@ -1,5 +1,5 @@
 -- Laws of a listing: when it is refused, what each cell holds after it, and how two listings go together.
--- listed-once                 no two answers have the same outcome
+-- That no two answers have the same outcome is outcome-once of crates/refusals/specs/Laws.antt.
 -- voice-first, lengths-next, file-last   the outcome of a call: 41 by the voice, then 42 by the lists, then
 --                                        that of the file
 -- refused_unchanged           a refusal leaves both lists as they were
@@ -15,14 +15,14 @@
 -- meet_again                  events of equal exact time share a jiffy, whichever voices they are of
 use Rattle.std.specs.Prelude.{ℕ, zero, suc, ◌+◌, ◌-◌, ◌*◌, ◌≤◌, ◌<◌, ◌≡◌, true, false, ◌||◌, List, [], ◌∷◌, ◌++◌, map, ◌⊎◌, eqb, ltb, length, take, drop, get_or}
 use Rattle.std.proofs.Math.Path.{refl}
-use Rattle.std.proofs.Common.{sym, ap, ◌∙◌, inl, inr, arith, not-suc-le-zero, le_of_suc-le-suc, length-take, length-drop}
+use Rattle.std.proofs.Common.{sym, ◌∙◌, inl, inr, arith, not-suc-le-zero, le_of_suc-le-suc, length-take, length-drop}
 use Rattle.std.proofs.Math.Decide.{dec_le}
 use Rattle.std.proofs.lemmas.List.{length-map}
 use borrow.Author.Tests.{eq-eqb, ne_eqb, eqb-true, not-false}
 use Rattle.refusals.specs.Numbers.{Outcome}
 use Rattle.refusals.specs.Numbers.Outcome.{accepted, refused}
 use Rattle.refusals.specs.Tests.{first_of, guarded, and_then}
-use Rattle.refusals.specs.Laws.{passed_none, two_ways, guarded-passed, refused-once}
+use Rattle.refusals.specs.Laws.{passed_none, two_ways, guarded-passed}
 use Rattle.clock.specs.Times.{time_of, jiffy_of}
 use Rattle.clock.specs.Running.{length-jiffies, jiffies_at}
 use Rattle.clock.specs.Laws.{jiffies_rise, same_time}
@@ -34,16 +34,7 @@ use Rattle.mus.specs.Asked.{song_voice, voice_asked}
 use Rattle.mus.specs.AskedLaws.{file-next, asked-accepted}
 use Rattle.cells.specs.Laws.{filled-length, filled_at, filled_beyond, filled-split}
 use Rattle.walk.specs.Times.{offsets_of, meanings, jiffies_of}
-use Rattle.events.specs.declared.Listed.{Listed}
-use Rattle.events.specs.declared.Listed.TheVariants.{Count, Refused}
-use Rattle.events.specs.Listing.{caller_tests, played_in, count_of, window_in, filled_by, listing_by, listing, outcome_of_listed}
-
--- Two answers that have one outcome are one answer.
-pub listed-once : (a b : Listed) → outcome_of_listed a ≡ outcome_of_listed b → a ≡ b
-listed-once (Count m) (Count n) e = let same : m ≡ n = cc in rw same
-listed-once (Count m) (Refused y) e = absurd (two_ways (sym e))
-listed-once (Refused x) (Count n) e = absurd (two_ways e)
-listed-once (Refused x) (Refused y) e = ap Refused (refused-once {X = ℕ} x y e)
+use Rattle.events.specs.Listing.{caller_tests, played_in, count_of, window_in, filled_by, listing_by, listing}
 
 -- What an answer with a count says: the file is accepted, the voice is one of its three, the lists are of one
 -- length, and the call leaves window_in of that voice.

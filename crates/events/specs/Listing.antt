@@ -16,11 +16,12 @@
 -- listing_by         what it leaves for a file: 41, then 42, then the file's own refusal, then the voice
 --                   (crates/mus/specs/Asked.antt), where read is the way to read pairs
 -- listing           the same with document 01's reader, pairs
--- outcome_of_listed   what an answer says
 use Rattle.std.specs.Prelude.{ℕ, ◌-◌, min, not, List, [], ◌∷◌, ◌++◌, eqb, length}
-use Rattle.refusals.specs.Numbers.{Outcome, list_lengths}
+use Rattle.refusals.specs.declared.Reason.TheVariants.{ListLengths}
+use Rattle.refusals.specs.Numbers.{Outcome}
 use Rattle.refusals.specs.Numbers.Outcome.{accepted, refused}
-use Rattle.refusals.specs.Tests.{Test, test, first_of, guarded}
+use Rattle.refusals.specs.declared.Test.{Test}
+use Rattle.refusals.specs.Tests.{test, first_of, guarded}
 use Rattle.bodies.specs.Bodies.{Event}
 use Rattle.bodies.specs.Voice.{Reader, pairs}
 use Rattle.bodies.specs.Playing.{played}
@@ -28,11 +29,9 @@ use Rattle.mus.specs.declared.Voice.{Voice}
 use Rattle.mus.specs.Asked.{number_tests, asked_by, bytes_of}
 use Rattle.cells.specs.Window.{filled}
 use Rattle.walk.specs.Times.{offsets_of, jiffies_of}
-use Rattle.events.specs.declared.Listed.{Listed}
-use Rattle.events.specs.declared.Listed.TheVariants.{Count, Refused}
 
 abbrev pub caller_tests : ℕ → ℕ → ℕ → List Test
-caller_tests voice n m = number_tests voice ++ test list_lengths (not (eqb n m)) ∷ []
+caller_tests voice n m = number_tests voice ++ test ListLengths (not (eqb n m)) ∷ []
 
 unfoldable pub played_by : Reader → List ℕ → Voice → List Event
 played_by read f v = played (read (bytes_of f v))
@@ -71,7 +70,3 @@ listing_by read f voice first os js =
 
 abbrev pub listing : List ℕ → ℕ → ℕ → List ℕ → List ℕ → Listing
 listing f voice first os js = listing_by pairs f voice first os js
-
-abbrev pub outcome_of_listed : Listed → Outcome ℕ
-outcome_of_listed (Count n) = accepted n
-outcome_of_listed (Refused x) = refused x.number x.place

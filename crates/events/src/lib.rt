@@ -3,39 +3,26 @@
 #![tactic(auto)]
 
 ghost use Rattle.std.specs.Prelude.{◌≡◌, ◌-◌, min, length};
+ghost use Rattle.refusals.specs.Numbers.{outcome_of};
+ghost use Rattle.refusals.specs.Numbers.Outcome.{accepted};
 ghost use Rattle.mus.specs.Bounds.{InSong};
-ghost use Rattle.events.specs.Listing.{window_in, listing, outcome_of_listed};
+ghost use Rattle.events.specs.Listing.{window_in, listing};
 
-use mus::{Voice, VoiceAnswer};
-use refusals::Refusal;
-
-// The answer to a listing: how many cells of each list are filled, or why none is.
-#[derive(Clone, Copy)]
-pub enum Listed {
-    Count(usize),
-    Refused(Refusal),
-}
+use mus::Voice;
+use refusals::{Reason, Refusal};
 
 // How many of the events from number first on fit into so many cells.
 fn count_of(events: u32, first: u64, cells: usize) -> usize
     ensures { result ≡ min cells (events - first) }
 {
-    let all = events as u64;
-    if all <= first {
-        return 0;
-    }
-    let after = all - first;
-    if after < cells as u64 {
-        after as usize
-    } else {
-        cells
-    }
+    let after = u64::from(events).saturating_sub(first);
+    after.min(cells as u64) as usize
 }
 
 // Fills the lists, which are of one length, from a voice of an accepted file.
-fn list_part(file: &[u8], v: Voice, first: u64, offsets: &mut [u32], jiffies: &mut [u32]) -> Listed
+fn list_part(file: &[u8], v: Voice, first: u64, offsets: &mut [u32], jiffies: &mut [u32]) -> usize
     requires { (InSong file.now v) × (length offsets.old ≡ length jiffies.old) }
-    ensures { record { answer = outcome_of_listed result; offsets = offsets.new; jiffies = jiffies.new } ≡ window_in file.now v first offsets.old jiffies.old }
+    ensures { record { answer = accepted result; offsets = offsets.new; jiffies = jiffies.new } ≡ window_in file.now v first offsets.old jiffies.old }
 {
     let from = v.offset;
     let len = v.length;
@@ -49,24 +36,28 @@ fn list_part(file: &[u8], v: Voice, first: u64, offsets: &mut [u32], jiffies: &m
         offsets,
         jiffies,
     );
-    Listed::Count(count)
+    count
 }
 
 // Lists the events of voice 1, 2 or 3 of a MUS file from event number first on, which counts from 0: cell i
 // of the first list takes the file offset, cell i of the second the jiffy of event first + i. Answers how
 // many, as many as there are and as the lists hold. Refused with 41 for any other voice, 42 for lists of
 // unequal length, or the file's own refusal; no cell but those that are filled changes.
-pub fn list(file: &[u8], voice: u32, first: u64, offsets: &mut [u32], jiffies: &mut [u32]) -> Listed
-    ensures { record { answer = outcome_of_listed result; offsets = offsets.new; jiffies = jiffies.new } ≡ listing file.now voice first offsets.old jiffies.old }
+pub fn list(
+    file: &[u8],
+    voice: u32,
+    first: u64,
+    offsets: &mut [u32],
+    jiffies: &mut [u32],
+) -> Result<usize, Refusal>
+    ensures { record { answer = outcome_of result; offsets = offsets.new; jiffies = jiffies.new } ≡ listing file.now voice first offsets.old jiffies.old }
 {
     if (voice < 1) | (3 < voice) {
-        return Listed::Refused(Refusal::unplaced(refusals::VOICE_NUMBER));
+        return Err(Reason::VoiceNumber.into());
     }
     if offsets.len() != jiffies.len() {
-        return Listed::Refused(Refusal::unplaced(refusals::LIST_LENGTHS));
+        return Err(Reason::ListLengths.into());
     }
-    match mus::read_voice(file, voice) {
-        VoiceAnswer::Refused(x) => Listed::Refused(x),
-        VoiceAnswer::Accepted(v) => list_part(file, v, first, offsets, jiffies),
-    }
+    let v = mus::read_voice(file, voice)?;
+    Ok(list_part(file, v, first, offsets, jiffies))
 }

@@ -1,36 +1,25 @@
--- The length of a list before its first mark, counted from the front. Assumes nothing.
-use Prim.Native.Nat.{ℕ, suc, ◌+◌, ◌<◌, ◌≤◌}
-use mathlib.Core.Path.{◌≡◌}
-use mathlib.Core.List.{List}
-use native.Mathlib.Omega.{arith}
-use native.Mathlib.Numerals.{add-one}
-use lib.ListN.{length, drop, get_or, drop_of_length-le}
-use lib.Seq.{drop-cons}
-use borrow.Author.Tests.{eq-eqb, ne_eqb}
+-- What stands before the first mark is as long as std's index of that mark. Assumes nothing.
+use Rattle.std.specs.Prelude.{ℕ, ◌+◌, ◌≡◌, ◌==◌, cond, List, ◌∷◌, length, position, unwrap_or, eqb}
+use Rattle.std.specs.List.{position_or_len}
+use Rattle.std.proofs.Common.{refl, arith, sym}
+use Rattle.std.proofs.lemmas.List.Recursion.{is_position_or_len}
+use Rattle.std.proofs.lemmas.Bool.{ltb-false}
+use Rattle.std.proofs.Math.Dec.{ltb}
+use Rattle.logic.specs.Cases.{cases}
 use Rattle.fields.specs.Parts.{before}
+use Rattle.fields.specs.Laws.{length_before}
 
--- what is counted so far, and what is still to be counted
-abbrev pub Counted : ℕ → List ℕ → ℕ → Type 0
-Counted mark s n = length (before mark s) ≡ n + length (before mark (drop n s))
-
-module _ (mark : ℕ) (s : List ℕ) where
-  pub counted_none : Counted mark s 0
-  counted_none = omega arith
-
-  pub counted_mark : (n : ℕ) → n < length s → get_or s n 0 ≡ mark → Counted mark s n → n ≡ length (before mark s)
+module _ (mark : ℕ) where
+  step : (b : ℕ) (bs : List ℕ) → length (before mark (b ∷ bs)) ≡ cond (eqb b mark) 0 (1 + length (before mark bs))
   unfolding before
-  counted_mark n h z e =
-      let t : length (before mark (drop n s)) ≡ 0 = rw (drop-cons s n 0 h, eq-eqb (get_or s n 0) mark z) in
-      omega arith
+  step b bs = cases (eqb b mark) (λ e. rw e) (λ e. rw e (omega arith))
 
-  pub counted-more : (n : ℕ) → n < length s → (get_or s n 0 ≡ mark → ⊥) → Counted mark s n → Counted mark s (n + 1)
+  pub before_position_or_len : (s : List ℕ) → length (before mark s) ≡ position_or_len (λ b. eqb b mark) s
   unfolding before
-  counted-more n h z e =
-      let t : length (before mark (drop n s)) ≡ suc (length (before mark (drop (suc n) s))) = rw (drop-cons s n 0 h, ne_eqb (get_or s n 0) mark z) in
-      rw (add-one n) (omega arith)
+  before_position_or_len = is_position_or_len (λ s. length (before mark s)) (λ b. eqb b mark) refl step
 
-  pub counted_all : (n : ℕ) → length s ≤ n → n ≤ length s → Counted mark s n → length s ≡ length (before mark s)
-  unfolding before
-  counted_all n h k e =
-      let t : length (before mark (drop n s)) ≡ 0 = rw (drop_of_length-le s h) in
-      omega arith
+  pub before_position : (s : List ℕ) → unwrap_or (position (λ b. b == mark) s) (length s) ≡ length (before mark s)
+  before_position s =
+      let e = before_position_or_len s in
+      let h = length_before mark s in
+      cases (ltb (position_or_len (λ b. eqb b mark) s) (length s)) (λ t. rw t (sym e)) (λ t. rw t (omega (arith, e, h, ltb-false _ _ t)))

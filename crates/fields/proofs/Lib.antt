@@ -1,5 +1,3 @@
-pub mod Past
-pub mod Parts
+pub mod Pieces
 pub mod Cut
-pub mod Marks
 pub mod Memory

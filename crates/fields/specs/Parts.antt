@@ -2,7 +2,7 @@
 -- part_of       the part of lent bytes that a span names; of it what lies in them
 -- before, before_zero   'cut before the first zero among them', and so before any mark, byte by byte with
 --                      unless_mark
--- front        numbers in the first cells of a list, as many as fit, and the cells after them as they stood
+-- front        values in the first cells of a list, as many as fit, and the cells after them as they stood
 -- byte_text     a text as bytes
 -- put          the bytes p in the place of those from a on, 'every cell but the payload's as it stood'
 use Rattle.std.specs.Prelude.{ℕ, ◌+◌, min, Bool, true, false, List, [], ◌∷◌, ◌++◌, length, take, drop, eqb}
@@ -28,8 +28,8 @@ before_zero s = before 0 s
 unfoldable pub put : List ℕ → ℕ → List ℕ → List ℕ
 put m a p = take a m ++ p ++ drop (a + length p) m
 
-abbrev pub front : List ℕ → List ℕ → List ℕ
-front numbers cells = take (min (length numbers) (length cells)) numbers ++ drop (min (length numbers) (length cells)) cells
+abbrev pub front : {A : Type 0} → List A → List A → List A
+front values cells = take (min (length values) (length cells)) values ++ drop (min (length values) (length cells)) cells
 
 abbrev pub byte_text : String → List ℕ
 byte_text string.[] = []

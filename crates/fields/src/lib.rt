@@ -18,63 +18,51 @@ pub struct Span {
 pub fn byte_at(s: &[u8], k: usize) -> u8
     ensures { result ≡ get_or s.now k 0 }
 {
-    if k < s.len() { s[k] } else { 0 }
+    s.get(k).copied().unwrap_or(0)
 }
 
-fn word(high: u8, low: u8) -> u16
-    ensures { result ≡ high * 256 + low }
+// The byte that stands so many after k, 0 past the end.
+fn byte_after(s: &[u8], k: usize, count: usize) -> u8
+    ensures { result ≡ get_or s.now (k + count) 0 }
 {
-    high as u16 * 256 + low as u16
+    byte_at(s, k.saturating_add(count))
 }
 
 // internal: two bytes from k on, high byte first.
+#[tactic(auto, unfolding(crate::specs::Numbers::be16))]
 pub fn be16(s: &[u8], k: usize) -> u16
     ensures { result ≡ be16 s.now k }
 {
-    if s.len() <= k {
-        return 0;
-    }
-    let first = byte_at(s, k);
-    let second = byte_at(s, k + 1);
-    word(first, second)
+    u16::from_be_bytes([byte_at(s, k), byte_after(s, k, 1)])
 }
 
 // internal: two bytes from k on, low byte first.
+#[tactic(auto, unfolding(crate::specs::Numbers::le16))]
 pub fn le16(s: &[u8], k: usize) -> u16
     ensures { result ≡ le16 s.now k }
 {
-    if s.len() <= k {
-        return 0;
-    }
-    let first = byte_at(s, k);
-    let second = byte_at(s, k + 1);
-    word(second, first)
+    u16::from_le_bytes([byte_at(s, k), byte_after(s, k, 1)])
 }
 
 // internal: four bytes from k on, high byte first.
+#[tactic(auto, unfolding(crate::specs::Numbers::be16, crate::specs::Numbers::be32))]
 pub fn be32(s: &[u8], k: usize) -> u32
     ensures { result ≡ be32 s.now k }
 {
-    if s.len() <= k {
-        return 0;
-    }
-    let high = be16(s, k);
-    let low = be16(s, k + 2);
-    high as u32 * 65536 + low as u32
+    u32::from_be_bytes([
+        byte_at(s, k),
+        byte_after(s, k, 1),
+        byte_after(s, k, 2),
+        byte_after(s, k, 3),
+    ])
 }
 
 // internal: the len bytes from from on; of them only those that lie in the slice.
 pub fn part(s: &[u8], from: usize, len: usize) -> &[u8]
     ensures { result.now ≡ take len (drop from s.now) }
 {
-    if s.len() <= from {
-        return &s[..0];
-    }
-    if len <= s.len() - from {
-        &s[from..from + len]
-    } else {
-        &s[from..]
-    }
+    let rest = &s[from.min(s.len())..];
+    &rest[..len.min(rest.len())]
 }
 
 // The bytes of a file that a span names; of them those that lie in the file. Headers and the answers to text
@@ -91,43 +79,14 @@ pub fn span_part(s: &[u8], span: Span) -> &[u8]
 pub fn length_before(s: &[u8], mark: u8) -> usize
     ensures { result ≡ length (before mark s.now) }
 {
-    let mut n = 0;
-    while n < s.len() {
-        if s[n] == mark {
-            return n;
-        }
-        n += 1;
-    }
-    s.len()
-}
-
-// Where the part of a list begins that has number marks before it; the end where there are fewer.
-fn start_of(list: &[u8], mark: u8, number: usize) -> usize
-    ensures { result ≡ entry_start list.now mark number }
-{
-    let mut left = number;
-    let mut i = 0;
-    while i < list.len() {
-        if left == 0 {
-            return i;
-        }
-        if list[i] == mark {
-            left -= 1;
-            i += 1;
-        } else {
-            i += 1;
-        }
-    }
-    list.len()
+    s.iter().position(|&byte| byte == mark).unwrap_or(s.len())
 }
 
 // internal: an entry by its number, from 0 on, of a list with a mark after each entry; nothing past the last.
 pub fn entry_at(list: &[u8], mark: u8, number: usize) -> &[u8]
     ensures { result.now ≡ entry_at list.now mark number }
 {
-    let from = start_of(list, mark, number);
-    let rest = part(list, from, list.len());
-    part(rest, 0, length_before(rest, mark))
+    list.split(|&byte| byte == mark).nth(number).unwrap_or(&[])
 }
 
 // internal: the bytes of src in the place of as many of memory's from at on. Callers see that they fit.
@@ -135,9 +94,5 @@ pub fn copy_to(src: &[u8], memory: &mut [u8], at: usize)
     requires { at + length src.now ≤ length memory.old }
     ensures { memory.new ≡ put memory.old at src.now }
 {
-    let mut j = 0;
-    while j < src.len() {
-        memory[at + j] = src[j];
-        j += 1;
-    }
+    memory[at..at + src.len()].copy_from_slice(src);
 }

@@ -3,10 +3,10 @@
 -- Filled       what is read lies in the first cells of the list, and every other cell is as before
 -- FilledPart   what a read that failed leaves in the list and in its reader
 -- ReadInto     what an answer says of the list before the call and after it
-use Rattle.std.specs.Prelude.{ℕ, ◌≤◌, ◌≡◌, List, length, take, drop, Option}
+use Rattle.std.specs.Prelude.{ℕ, ◌≤◌, ◌≡◌, List, length, take, drop, Option, Result, Ok, Err}
 use Rattle.std.specs.Io.KnownBytes.{Consumes}
-use Rattle.files.specs.declared.Loaded.{Loaded}
-use Rattle.files.specs.declared.Loaded.TheVariants.{Bytes, NotOpened, NotRead}
+use Rattle.files.specs.declared.LoadError.{LoadError}
+use Rattle.files.specs.declared.LoadError.TheVariants.{NotOpened, NotRead}
 
 pub record Filled (n : ℕ) (before after : List ℕ) : Type 0 where
   -- No more bytes are counted than the list holds.
@@ -22,10 +22,10 @@ abbrev pub FilledPart : Option (List ℕ) → Option (List ℕ) → List ℕ →
 FilledPart left_before left_after before after =
     (n : ℕ) × Filled n before after × Consumes left_before left_after (take n after)
 
-abbrev pub ReadInto : Loaded → List ℕ → List ℕ → Type 0
+abbrev pub ReadInto : Result ℕ LoadError → List ℕ → List ℕ → Type 0
 -- With a count the cells after the bytes that were read are as before.
-ReadInto (Bytes n) before after = Filled n before after
+ReadInto (Ok n) before after = Filled n before after
 -- A file that was not opened leaves every cell as before.
-ReadInto (NotOpened error) before after = after ≡ before
+ReadInto (Err (NotOpened error)) before after = after ≡ before
 -- Of a file that was opened and not read nothing is promised: some of its bytes may be in the list.
-ReadInto (NotRead error) before after = Unit
+ReadInto (Err (NotRead error)) before after = Unit

@@ -1,4 +1,5 @@
-// The machine's error numbers that programs tell apart. They are Linux's.
+// The machine's error numbers that programs tell apart. They are Linux's, and no enum of ours: the machine
+// has others, and its words for each are asked for by number.
 pub const ENOENT: i32 = 2;
 
 pub const EIO: i32 = 5;

@@ -16,24 +16,20 @@ use std::{fs, io, str};
 // More bytes than the longest path has.
 const PATH_MAX: usize = 4096;
 
-// How many bytes were read; or the machine's error number, where the file was not opened, and where it was
-// opened and not read.
-#[derive(Clone, Copy)]
-pub enum Loaded {
-    Bytes(usize),
+// Why a file was not read, with the machine's error number.
+#[derive(Clone, Copy, Debug, PartialEq, Eq)]
+pub enum LoadError {
     NotOpened(i32),
     NotRead(i32),
 }
 
 // The machine's number of an error. Only std's own, that a name has a zero byte in it, has none.
 fn number(error: Error) -> i32 {
-    match error.raw_os_error() {
-        Some(n) => n,
-        None => errors::EINVAL,
-    }
+    error.raw_os_error().unwrap_or(errors::EINVAL)
 }
 
 // internal: what a reader gives, until it ends or the list is full; the cells after that stay as they were.
+// The loop goes on by what each read gives: std's read_exact does not say what a reader that fails has given.
 // Where a read fails, what was read before it lies in the first cells.
 // The reader is lent a list of its own: what it does to the cells after those that it counts, nobody says.
 // That list has no multiple of 4,096 bytes: where both lists lie at such a distance, copying takes several
@@ -61,28 +57,26 @@ pub fn read_full<R: Read>(from: &mut R, out: &mut [u8]) -> io::Result<usize>
 }
 
 // A file that is open, from its start, until it ends or the list is full.
-fn read_open<R: Read>(file: &mut R, out: &mut [u8]) -> Loaded
+fn read_open<R: Read>(file: &mut R, out: &mut [u8]) -> Result<usize, LoadError>
     ensures { ReadInto result out.old out.new }
 {
-    match read_full(file, out) {
-        Ok(n) => Loaded::Bytes(n),
-        Err(error) => Loaded::NotRead(number(error)),
-    }
+    read_full(file, out).map_err(|error| LoadError::NotRead(number(error)))
 }
 
-// internal: reads the file that the path names, from its start, until it ends or the list is full. The cells
-// after the bytes that are counted stay as they were, and all of them where the file is not opened.
-pub fn read_file(rt: &impl Files, path: &[u8], out: &mut [u8]) -> Loaded
+// internal: reads the file that the path names, from its start, until it ends or the list is full, and
+// answers how many bytes were read. The cells after those stay as they were, and all of them where the file
+// is not opened.
+pub fn read_file(rt: &impl Files, path: &[u8], out: &mut [u8]) -> Result<usize, LoadError>
     ensures { ReadInto result out.old out.new }
 {
     if PATH_MAX <= path.len() {
-        return Loaded::NotOpened(errors::ENAMETOOLONG);
+        return Err(LoadError::NotOpened(errors::ENAMETOOLONG));
     }
     let Ok(name) = str::from_utf8(path) else {
-        return Loaded::NotOpened(errors::EILSEQ);
+        return Err(LoadError::NotOpened(errors::EILSEQ));
     };
     match fs::open(rt, name) {
         Ok(mut file) => read_open(&mut file, out),
-        Err(error) => Loaded::NotOpened(number(error)),
+        Err(error) => Err(LoadError::NotOpened(number(error))),
     }
 }

@@ -6,15 +6,15 @@
 -- row3, row_b, row_f   a second byte after 01 whose low nibble is 3, B or F
 -- second_kind         every second byte after 01
 use Rattle.std.specs.Prelude.{ℕ, ◌+◌, ◌/◌, ◌%◌, Bool, ◌||◌, cond, eqb, leb}
-use Rattle.refusals.specs.Numbers.{number_of, unassigned_pair, value_range}
+use Rattle.refusals.specs.declared.Reason.TheVariants.{UnassignedPair, ValueRange}
 use Rattle.kind.specs.declared.Kind.{Kind}
 use Rattle.kind.specs.declared.Kind.TheVariants.{Event, Tal, Def, End, Cal, Hlt, Bad}
 
 abbrev pub event_unless : Bool → Kind
-event_unless b = cond b (Bad (number_of unassigned_pair)) Event
+event_unless b = cond b (Bad UnassignedPair) Event
 
 abbrev pub event_if : Bool → Kind
-event_if b = cond b Event (Bad (number_of value_range))
+event_if b = cond b Event (Bad ValueRange)
 
 abbrev pub row3 : ℕ → Kind
 row3 b = cond (leb 0x80 b) (Def (b / 16 + 8)) (event_unless (eqb b 0x53))

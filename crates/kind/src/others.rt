@@ -5,6 +5,7 @@ ghost use Rattle.kind.specs.Kinds.{kind_of};
 ghost use Rattle.kind.specs.Bytes.{event_if};
 
 use crate::Kind;
+use refusals::Reason;
 
 // An event, or a value out of range.
 fn event_if(within: bool) -> Kind
@@ -13,7 +14,7 @@ fn event_if(within: bool) -> Kind
     if within {
         Kind::Event
     } else {
-        Kind::Bad(refusals::VALUE_RANGE)
+        Kind::Bad(Reason::ValueRange)
     }
 }
 
@@ -28,7 +29,7 @@ pub fn other_kind(first: u8, second: u8) -> Kind
         return Kind::Event;
     }
     if first % 4 != 2 {
-        return Kind::Bad(refusals::UNASSIGNED_PAIR);
+        return Kind::Bad(Reason::UnassignedPair);
     }
     match first {
         0x36 => Kind::Hed(second as u16),
@@ -40,10 +41,10 @@ pub fn other_kind(first: u8, second: u8) -> Kind
         0x2E => event_if((second < 0xB8) & ((0x60 <= second) | (second % 8 < 7))),
         0xBE => event_if(second < 0xF6),
         0xFE => event_if(0x37 < second),
-        0x8E => Kind::Bad(refusals::UNASSIGNED_PAIR),
-        0xAE => Kind::Bad(refusals::UNASSIGNED_PAIR),
-        0xCE => Kind::Bad(refusals::UNASSIGNED_PAIR),
-        0xEE => Kind::Bad(refusals::UNASSIGNED_PAIR),
+        0x8E => Kind::Bad(Reason::UnassignedPair),
+        0xAE => Kind::Bad(Reason::UnassignedPair),
+        0xCE => Kind::Bad(Reason::UnassignedPair),
+        0xEE => Kind::Bad(Reason::UnassignedPair),
         _ => Kind::Event,
     }
 }

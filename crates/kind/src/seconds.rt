@@ -5,13 +5,14 @@ ghost use Rattle.kind.specs.Kinds.{kind_of};
 ghost use Rattle.kind.specs.Bytes.{event_unless, row3, row_b, row_f};
 
 use crate::Kind;
+use refusals::Reason;
 
 // An event, or a pair that 004 does not assign.
 fn event_unless(unassigned: bool) -> Kind
     ensures { result ≡ event_unless unassigned }
 {
     if unassigned {
-        Kind::Bad(refusals::UNASSIGNED_PAIR)
+        Kind::Bad(Reason::UnassignedPair)
     } else {
         Kind::Event
     }

@@ -2,10 +2,7 @@
 // its number, the file offset of its pair and its jiffy; or shows the refusal's number and place.
 #![tactic(auto)]
 
-use events::Listed;
-use mus::{Reading, Song};
-use printing::{write, write_refusal};
-use refusals::Refusal;
+use mus::Song;
 use std::io;
 use std::io::Write;
 
@@ -13,26 +10,20 @@ mod lines;
 
 // A voice is listed a window of so many events at a time. The call walks to each window from the voice's
 // start, so windows are to be few: at most 8 for the 1,048,576 pairs that an accepted voice walks.
-pub const WINDOW: usize = 131072;
-
-fn refuse(out: &mut impl Write, x: Refusal) -> io::Result<()> {
-    write_refusal(out, x)?;
-    write(out, b"\n")?;
-    Ok(())
-}
+const WINDOW: usize = 131072;
 
 // Shows a voice's events from number first on, as many as a window holds; answers whether to go on.
 fn show_window(out: &mut impl Write, file: &[u8], voice: u32, first: u32) -> io::Result<bool> {
     let mut offsets = [0u32; WINDOW];
     let mut jiffies = [0u32; WINDOW];
-    match events::list(file, voice, first as u64, &mut offsets, &mut jiffies) {
-        Listed::Count(count) => {
+    match events::list(file, voice, u64::from(first), &mut offsets, &mut jiffies) {
+        Ok(count) => {
             lines::show_events(out, voice, first, count, &offsets, &jiffies)?;
             Ok(true)
         }
         // no voice of an accepted file is refused
-        Listed::Refused(x) => {
-            refuse(out, x)?;
+        Err(refusal) => {
+            writeln!(out, "{refusal}")?;
             Ok(false)
         }
     }
@@ -40,35 +31,33 @@ fn show_window(out: &mut impl Write, file: &[u8], voice: u32, first: u32) -> io:
 
 // Shows a voice of so many events; answers whether to go on.
 fn show_voice(out: &mut impl Write, file: &[u8], voice: u32, events: u32) -> io::Result<bool> {
-    let mut first = 0;
-    while first < events {
+    for first in (0..events).step_by(WINDOW) {
         if !show_window(out, file, voice, first)? {
             return Ok(false);
         }
-        if events - first <= WINDOW as u32 {
-            return Ok(true);
-        }
-        first += WINDOW as u32;
     }
     Ok(true)
 }
 
 fn show_song(out: &mut impl Write, file: &[u8], song: Song) -> io::Result<()> {
-    write(out, b"voice event place jiffy\n")?;
-    if !show_voice(out, file, 1, song.voice1.events)? {
-        return Ok(());
+    writeln!(out, "voice event place jiffy")?;
+    let voices = [
+        (1, song.voice1.events),
+        (2, song.voice2.events),
+        (3, song.voice3.events),
+    ];
+    for (voice, events) in voices {
+        if !show_voice(out, file, voice, events)? {
+            break;
+        }
     }
-    if !show_voice(out, file, 2, song.voice2.events)? {
-        return Ok(());
-    }
-    show_voice(out, file, 3, song.voice3.events)?;
     Ok(())
 }
 
 fn report(out: &mut impl Write, file: &[u8]) -> io::Result<()> {
     match mus::accept(file) {
-        Reading::Accepted(song) => show_song(out, file, song),
-        Reading::Refused(x) => refuse(out, x),
+        Ok(song) => show_song(out, file, song),
+        Err(refusal) => writeln!(out, "{refusal}"),
     }
 }
 

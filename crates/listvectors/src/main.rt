@@ -2,11 +2,8 @@
 // and every lent cell, a line a call. tools/listvectors makes the files and says what each call must give.
 #![tactic(auto)]
 
-ghost use Rattle.std.specs.Prelude.{◌≤◌};
-
-use events::Listed;
-use files::Loaded;
-use printing::{write, write_after, write_failure, write_refusal};
+use files::LoadError;
+use printing::write_failure;
 use refusals::Refusal;
 use std::io;
 use std::io::Write;
@@ -20,34 +17,6 @@ struct Call {
     jiffies: u64,
 }
 
-fn show_refusal(out: &mut impl Write, x: Refusal) -> io::Result<()> {
-    write(out, b" refused ")?;
-    write_refusal(out, x)?;
-    Ok(())
-}
-
-fn show_answer(out: &mut impl Write, answer: Listed) -> io::Result<()> {
-    match answer {
-        Listed::Count(count) => {
-            write_after(out, b" count ", count as u64)?;
-            Ok(())
-        }
-        Listed::Refused(x) => show_refusal(out, x),
-    }
-}
-
-fn show_cell(out: &mut impl Write, x: u32) -> io::Result<()> {
-    write_after(out, b" ", x as u64)?;
-    Ok(())
-}
-
-fn show_cells(out: &mut impl Write, cells: &[u32]) -> io::Result<()> {
-    for cell in cells {
-        show_cell(out, *cell)?;
-    }
-    Ok(())
-}
-
 // Puts a number, the next one, and so on into the cells, so that a changed cell shows.
 fn mark(cells: &mut [u32], from: u32) {
     let mut value = from;
@@ -57,16 +26,12 @@ fn mark(cells: &mut [u32], from: u32) {
     }
 }
 
-// Ten times n, and the digit.
-fn with_digit(n: u64, digit: u8) -> u64 {
-    n.wrapping_mul(10)
-        .wrapping_add((digit as u64).wrapping_sub(48))
-}
-
 fn number(text: &[u8]) -> u64 {
     let mut n: u64 = 0;
-    for digit in text {
-        n = with_digit(n, *digit);
+    for &digit in text {
+        n = n
+            .wrapping_mul(10)
+            .wrapping_add((digit as u64).wrapping_sub(48));
     }
     n
 }
@@ -74,38 +39,39 @@ fn number(text: &[u8]) -> u64 {
 // Argument i, shown with a space before it, as a number.
 fn argument(rt: &HostRuntime, out: &mut impl Write, i: usize) -> io::Result<u64> {
     let mut word = [0u8; 32];
-    let n = match files::arg(rt, i, &mut word) {
-        Some(n) => n,
-        None => 0,
-    };
-    write(out, b" ")?;
-    write(out, &word[..n])?;
+    let n = files::arg(rt, i, &mut word).unwrap_or(0);
+    write!(out, " ")?;
+    out.write_all(&word[..n])?;
     Ok(number(&word[..n]))
 }
 
-// The lesser of a number and a length.
-fn within(n: u64, len: usize) -> usize
-    ensures { result ≤ len }
-{
-    if n < len as u64 { n as usize } else { len }
+// The first n of the cells that are lent, or all of them.
+fn first_cells(cells: &mut [u32], n: u64) -> &mut [u32] {
+    let len = (cells.len() as u64).min(n) as usize;
+    &mut cells[..len]
 }
 
 // Shows the cells that were lent, and two after them.
-fn show_lent(out: &mut impl Write, cells: &[u32], n: u64) -> io::Result<()> {
-    let shown = within(n.wrapping_add(2), cells.len());
-    show_cells(out, &cells[0..shown])
+fn show_lent(out: &mut impl Write, cells: &mut [u32], n: u64) -> io::Result<()> {
+    for cell in first_cells(cells, n.wrapping_add(2)) {
+        write!(out, " {cell}")?;
+    }
+    Ok(())
 }
 
 // Lists into the first cells of each list.
-fn list(file: &[u8], call: Call, offsets: &mut [u32], jiffies: &mut [u32]) -> Listed {
-    let a = within(call.offsets, offsets.len());
-    let b = within(call.jiffies, jiffies.len());
+fn list(
+    file: &[u8],
+    call: Call,
+    offsets: &mut [u32],
+    jiffies: &mut [u32],
+) -> Result<usize, Refusal> {
     events::list(
         file,
         call.voice,
         call.first,
-        &mut offsets[..a],
-        &mut jiffies[..b],
+        first_cells(offsets, call.offsets),
+        first_cells(jiffies, call.jiffies),
     )
 }
 
@@ -118,13 +84,15 @@ fn run(
 ) -> io::Result<()> {
     mark(offsets, 4000000000);
     mark(jiffies, 3000000000);
-    show_answer(out, list(file, call, offsets, jiffies))?;
-    write(out, b" offsets")?;
+    match list(file, call, offsets, jiffies) {
+        Ok(count) => write!(out, " count {count}")?,
+        Err(refusal) => write!(out, " refused {refusal}")?,
+    }
+    write!(out, " offsets")?;
     show_lent(out, offsets, call.offsets)?;
-    write(out, b" jiffies")?;
+    write!(out, " jiffies")?;
     show_lent(out, jiffies, call.jiffies)?;
-    write(out, b"\n")?;
-    Ok(())
+    writeln!(out)
 }
 
 // Each list has 48 cells.
@@ -150,7 +118,7 @@ fn call_after(rt: &HostRuntime, out: &mut impl Write, i: usize) -> io::Result<Ca
 
 fn report_call(rt: &HostRuntime, name: &[u8], file: &[u8], i: usize) -> io::Result<()> {
     let mut out = rt.stdout();
-    write(&mut out, name)?;
+    out.write_all(name)?;
     let call = call_after(rt, &mut out, i)?;
     report(&mut out, file, call)
 }
@@ -164,14 +132,12 @@ fn has_row(rt: &HostRuntime, i: usize) -> bool {
 fn report_row(rt: &HostRuntime, i: usize) -> io::Result<()> {
     let mut name = [0u8; 64];
     let mut file = [0u8; 66000];
-    let n = match files::arg(rt, i, &mut name) {
-        Some(n) => n,
-        None => 0,
-    };
+    let n = files::arg(rt, i, &mut name).unwrap_or(0);
     match files::read_file(rt, &name[..n], &mut file) {
-        Loaded::Bytes(len) => report_call(rt, &name[..n], fields::part(&file, 0, len), i),
-        Loaded::NotOpened(error) => write_failure(&mut rt.stderr(), &name[..n], error),
-        Loaded::NotRead(error) => write_failure(&mut rt.stderr(), &name[..n], error),
+        Ok(len) => report_call(rt, &name[..n], fields::part(&file, 0, len), i),
+        Err(LoadError::NotOpened(error) | LoadError::NotRead(error)) => {
+            write_failure(&mut rt.stderr(), &name[..n], error)
+        }
     }
 }
 

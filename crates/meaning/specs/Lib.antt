@@ -1,3 +1,3 @@
-pub mod Answers
+pub mod Bumps
 pub mod Pitches
 pub mod Laws

@@ -12,7 +12,8 @@ use Rattle.meaning.specs.declared.Letter.TheVariants.{C, D, E, F, G, A, B}
 use Rattle.meaning.specs.declared.Accidental.{Accidental}
 use Rattle.meaning.specs.declared.Accidental.TheVariants.{Flat, Natural, Sharp, DoubleSharp, DoubleFlat}
 use Rattle.meaning.specs.declared.Pitch.{Pitch}
-use Rattle.refusals.specs.Numbers.{Outcome, number_of, no_pair}
+use Rattle.refusals.specs.declared.Reason.TheVariants.{NoPair}
+use Rattle.refusals.specs.Numbers.{Outcome, number_of}
 use Rattle.refusals.specs.Numbers.Outcome.{accepted, refused}
 
 abbrev pub double_is_sharp : Letter → Bool
@@ -61,4 +62,4 @@ abbrev pub half_step : Pitch → ℤ
 half_step p = sub_ℕ (12 * p.octave + letter_step p.letter + raised_by p.accidental) (lowered_by p.accidental)
 
 abbrev pub step_outcome : Pitch → Outcome ℤ
-step_outcome p = cond (in_tables p) (accepted (half_step p)) (refused (number_of no_pair) 0)
+step_outcome p = cond (in_tables p) (accepted (half_step p)) (refused (number_of NoPair) 0)

@@ -2,12 +2,15 @@
 #![tactic(auto)]
 
 ghost use Rattle.std.specs.Prelude.{◌≡◌};
-ghost use Rattle.meaning.specs.Answers.{outcome_of_step};
+ghost use Rattle.meaning.specs.Bumps.{bump_of};
+ghost use Rattle.refusals.specs.Numbers.{outcome_of};
 ghost use Rattle.meaning.specs.Pitches.{in_tables, step_outcome};
 
-use refusals::Refusal;
+use refusals::{Reason, Refusal};
 
 mod pitches;
+
+pub use pitches::double_is_sharp;
 
 #[derive(Clone, Copy)]
 pub enum Duration {
@@ -59,6 +62,7 @@ pub struct Pitch {
     pub octave: u16,
 }
 
+// A rest is a thing that the second byte says, and not the lack of a pitch, so an Option would be no plainer.
 #[derive(Clone, Copy)]
 pub enum Tone {
     Rest,
@@ -78,6 +82,15 @@ pub struct Note {
 pub enum Bump {
     Up,
     Down,
+}
+
+// BMP by the number that stands for its value: 0 is UP, any other DN.
+impl From<u16> for Bump {
+    ghost from_gives = { λ number bump. bump ≡ bump_of number };
+
+    fn from(number: u16) -> Bump {
+        if number == 0 { Bump::Up } else { Bump::Down }
+    }
 }
 
 // A pair's meaning: a note, or a command by source 004's abbreviation with its value. Where 004 has NO and
@@ -137,51 +150,40 @@ pub enum Meaning {
     Por(u16),
 }
 
-// The answer to a pair that is read.
+// The two bytes of a pair.
 #[derive(Clone, Copy)]
-pub enum Reading {
-    Means(Meaning),
-    Refused(Refusal),
+pub struct Bytes {
+    pub first: u8,
+    pub second: u8,
 }
 
-// The answer to a meaning that is to be written: the two bytes.
-#[derive(Clone, Copy)]
-pub enum Spelling {
-    Bytes(u8, u8),
-    Refused(Refusal),
-}
-
-// The answer to a pitch: its half-step, C natural of octave 0 being 0.
-#[derive(Clone, Copy)]
-pub enum HalfStep {
-    Step(i32),
-    Refused(Refusal),
+impl Bytes {
+    // internal: a pair of its two bytes.
+    pub fn new(first: u8, second: u8) -> Bytes
+        ensures { result ≡ record { first = first; second = second } }
+    {
+        Bytes { first, second }
+    }
 }
 
 // internal: whether some second byte of a note has this pitch.
 pub fn in_tables(pitch: Pitch) -> bool
     ensures { result ≡ in_tables pitch }
 {
-    let letter = pitch.letter;
-    let accidental = pitch.accidental;
-    let octave = pitch.octave;
-    pitches::has_accidental(letter, accidental) & (octave <= 7)
+    pitches::has_accidental(pitch.letter, pitch.accidental) & (pitch.octave <= 7)
 }
 
-// The half-step of a pitch, -1 to 96; a pitch that no pair has is refused with 43.
-pub fn half_step(pitch: Pitch) -> HalfStep
-    ensures { outcome_of_step result ≡ step_outcome pitch }
+// The half-step of a pitch, -1 to 96, C natural of octave 0 being 0; a pitch that no pair has is refused
+// with 43.
+pub fn half_step(pitch: Pitch) -> Result<i32, Refusal>
+    ensures { outcome_of result ≡ step_outcome pitch }
 {
-    if in_tables(pitch) {
-        let letter = pitch.letter;
-        let accidental = pitch.accidental;
-        let octave = pitch.octave;
-        let natural = 12 * octave + pitches::letter_step(letter);
-        HalfStep::Step(signed::less(
-            natural + pitches::raised_by(accidental),
-            pitches::lowered_by(accidental),
-        ))
-    } else {
-        HalfStep::Refused(Refusal::unplaced(refusals::NO_PAIR))
+    if !in_tables(pitch) {
+        return Err(Reason::NoPair.into());
     }
+    let natural = 12 * pitch.octave + pitches::letter_step(pitch.letter);
+    Ok(signed::less(
+        natural + pitches::raised_by(pitch.accidental),
+        pitches::lowered_by(pitch.accidental),
+    ))
 }

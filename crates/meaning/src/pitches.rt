@@ -22,11 +22,9 @@ pub fn raised_by(accidental: Accidental) -> u16
     ensures { result ≡ raised_by accidental }
 {
     match accidental {
-        Accidental::Flat => 0,
-        Accidental::Natural => 0,
         Accidental::Sharp => 1,
         Accidental::DoubleSharp => 2,
-        Accidental::DoubleFlat => 0,
+        Accidental::Flat | Accidental::Natural | Accidental::DoubleFlat => 0,
     }
 }
 
@@ -35,35 +33,23 @@ pub fn lowered_by(accidental: Accidental) -> u16
 {
     match accidental {
         Accidental::Flat => 1,
-        Accidental::Natural => 0,
-        Accidental::Sharp => 0,
-        Accidental::DoubleSharp => 0,
         Accidental::DoubleFlat => 2,
+        Accidental::Natural | Accidental::Sharp | Accidental::DoubleSharp => 0,
     }
 }
 
-// Whether bits 7-6 of 00 make this letter double sharp; else they make it double flat.
-fn double_is_sharp(letter: Letter) -> bool
+// internal: whether bits 7-6 of 00 make this letter double sharp; else they make it double flat.
+pub fn double_is_sharp(letter: Letter) -> bool
     ensures { result ≡ double_is_sharp letter }
 {
-    match letter {
-        Letter::C => true,
-        Letter::D => true,
-        Letter::E => false,
-        Letter::F => true,
-        Letter::G => true,
-        Letter::A => false,
-        Letter::B => false,
-    }
+    matches!(letter, Letter::C | Letter::D | Letter::F | Letter::G)
 }
 
 pub fn has_accidental(letter: Letter, accidental: Accidental) -> bool
     ensures { result ≡ has_accidental letter accidental }
 {
     match accidental {
-        Accidental::Flat => true,
-        Accidental::Natural => true,
-        Accidental::Sharp => true,
+        Accidental::Flat | Accidental::Natural | Accidental::Sharp => true,
         Accidental::DoubleSharp => double_is_sharp(letter),
         Accidental::DoubleFlat => !double_is_sharp(letter),
     }

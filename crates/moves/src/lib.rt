@@ -1,14 +1,16 @@
 // Internal: the pairs of a voice as a walk over it meets them, and where it goes on after one that is no
-// event. A repeat in progress is kept as the number of its HED times 256 and the passes that are left, this
-// one included; a call as the number of its CAL times 256.
+// event.
 #![tactic(auto)]
 
-ghost use Rattle.std.specs.Prelude.{◌≡◌, ◌+◌, ◌*◌, ◌/◌, ◌<◌, ◌≤◌, length};
+ghost use Rattle.std.specs.Prelude.{◌≡◌, ◌+◌, ◌*◌, ◌<◌, ◌≤◌, length};
+ghost use Rattle.pair.specs.Pairs.{meaning_of};
 ghost use Rattle.kind.specs.Kinds.{kind_of};
 ghost use Rattle.bodies.specs.Voice.{pair_at};
-ghost use Rattle.moves.specs.Moves.{next_of, Bounded, Ready, tal, tal_frames, end, place_after, frames_after};
+ghost use Rattle.moves.specs.Moves.{next_of, Bounded, Ready, tal, tal_frames, end, end_frames, place_after, frames_after};
 
+use arrayvec::ArrayVec;
 use kind::Kind;
+use meaning::Bytes;
 
 pub mod noted;
 
@@ -22,128 +24,98 @@ pub enum Move {
     End,
 }
 
-// A pair in the walk: an event, or a pair that makes bodies.
+// A repeat in progress, by the number of its body's first pair and the passes that are left, this one
+// included; or a call, by the number of the pair after its CAL.
 #[derive(Clone, Copy)]
-pub enum Next {
-    Event,
-    Structure(Move),
+pub enum Frame {
+    Repeat(usize, u16),
+    Call(usize),
 }
 
-// The number of the pair that comes next, and how many repeats and calls are in progress.
-#[derive(Clone, Copy)]
-pub struct Place {
-    pub at: usize,
-    pub depth: usize,
+// What fills the free cells of a list of frames. It has no variant without a number, so none is derived.
+impl Default for Frame {
+    fn default() -> Frame {
+        Frame::Call(0)
+    }
 }
 
-// internal: pair number i as what it is to the walk. Plain events, the commonest, come first.
-pub fn next_at(voice: &[u8], i: usize) -> Next
+// The repeats and calls in progress, the innermost last.
+pub type Frames = ArrayVec<Frame, 16>;
+
+// internal: a pair as what it is to the walk: None for an event. Plain events, the commonest, come first.
+pub fn move_of(pair: Bytes) -> Option<Move>
+    ensures { (result ≡ next_of (kind_of (meaning_of pair.first pair.second))) × Bounded result }
+{
+    if kind::is_plain(pair.first, pair.second) {
+        return None;
+    }
+    match kind::kind_of(pair.first, pair.second) {
+        Kind::Hed(n) => Some(Move::Repeat(n)),
+        Kind::Tal => Some(Move::Tal),
+        Kind::Def(k) => Some(Move::Phrase(k)),
+        Kind::End => Some(Move::End),
+        Kind::Cal(k) => Some(Move::Call(k)),
+        Kind::Event | Kind::Hlt | Kind::Bad(_) => None,
+    }
+}
+
+// internal: pair number i of a voice's bytes as what it is to the walk.
+pub fn next_at(voice: &[u8], i: usize) -> Option<Move>
     requires { 2 * i + 1 < length voice.now }
     ensures { (result ≡ next_of (kind_of (pair_at voice.now i))) × Bounded result }
 {
-    if bodies::plain_at(voice, i) {
-        return Next::Event;
-    }
-    match bodies::kind_at(voice, i) {
-        Kind::Event => Next::Event,
-        Kind::Hed(n) => Next::Structure(Move::Repeat(n)),
-        Kind::Tal => Next::Structure(Move::Tal),
-        Kind::Def(k) => Next::Structure(Move::Phrase(k)),
-        Kind::End => Next::Structure(Move::End),
-        Kind::Cal(k) => Next::Structure(Move::Call(k)),
-        Kind::Hlt => Next::Event,
-        Kind::Bad(_) => Next::Event,
-    }
+    move_of(bodies::bytes_at(voice, i))
 }
 
-// What is kept of a HED with the passes that are left, and of a CAL with 0.
-fn kept(at: usize, passes: u16) -> u32
-    requires { (at < 32768) × (passes < 256) }
-    ensures { result ≡ at * 256 + passes }
+// TAL: back to the first pair of its body while passes are left, else on.
+fn close_repeat(at: usize, frames: &mut Frames) -> usize
+    requires { (at < 32768) × (length frames.old.items ≤ 16) }
+    ensures { (result ≡ tal at frames.old.items) × (frames.new.items ≡ tal_frames frames.old.items) }
 {
-    at as u32 * 256 + passes as u32
-}
-
-// The number of the pair after the HED or CAL that is kept.
-fn pair_after(frame: u32) -> usize
-    ensures { result ≡ frame / 256 + 1 }
-{
-    (frame / 256) as usize + 1
-}
-
-// TAL: back to the pair after its HED while passes are left, else on.
-fn close_repeat(place: Place, frames: &mut [u32; 16]) -> Place
-    requires { (0 < place.depth) × (place.depth ≤ 16) × (place.at < 32768) }
-    ensures { (result ≡ tal place frames.old) × (frames.new ≡ tal_frames place frames.old) }
-{
-    let top = place.depth - 1;
-    let frame = frames[top];
-    if 1 < frame % 256 {
-        frames[top] = frame - 1;
-        Place {
-            at: pair_after(frame),
-            depth: place.depth,
+    match frames.pop() {
+        Some(Frame::Repeat(body, left)) => {
+            if 1 < left {
+                frames.push(Frame::Repeat(body, left - 1));
+                body
+            } else {
+                at + 1
+            }
         }
-    } else {
-        Place {
-            at: place.at + 1,
-            depth: top,
-        }
+        _ => at + 1,
     }
 }
 
 // END: to the pair after the CAL if a call is innermost, else on.
-fn close_phrase(place: Place, frames: &[u32; 16]) -> Place
-    requires { (place.depth ≤ 16) × (place.at < 32768) }
-    ensures { result ≡ end place frames.now }
+fn close_phrase(at: usize, frames: &mut Frames) -> usize
+    requires { at < 32768 }
+    ensures { (result ≡ end at frames.old.items) × (frames.new.items ≡ end_frames frames.old.items) }
 {
-    let depth = place.depth;
-    if depth == 0 {
-        return Place {
-            at: place.at + 1,
-            depth,
-        };
-    }
-    let top = depth - 1;
-    let frame = frames[top];
-    if frame % 256 == 0 {
-        Place {
-            at: pair_after(frame),
-            depth: top,
+    match frames.last() {
+        Some(&Frame::Call(after)) => {
+            frames.pop();
+            after
         }
-    } else {
-        Place {
-            at: place.at + 1,
-            depth,
-        }
+        _ => at + 1,
     }
 }
 
-// internal: the place after a pair that makes bodies. HED and CAL are kept as in progress. body is where the
-// body that a CAL stands for begins; no other pair asks for it.
-pub fn go_on(m: Move, place: Place, body: usize, frames: &mut [u32; 16]) -> Place
-    requires { Ready m place }
-    ensures { (result ≡ place_after m place body frames.old) × (frames.new ≡ frames_after m place frames.old) }
+// internal: the number of the pair after one that makes bodies. HED and CAL are kept as in progress. body is
+// where the body that a CAL stands for begins; no other pair asks for it.
+pub fn go_on(m: Move, at: usize, body: usize, frames: &mut Frames) -> usize
+    requires { Ready m at frames.old.items }
+    ensures { (result ≡ place_after m at body frames.old.items) × (frames.new.items ≡ frames_after m at frames.old.items) }
 {
-    let at = place.at;
-    let depth = place.depth;
     match m {
         Move::Repeat(n) => {
-            frames[depth] = kept(at, n);
-            Place {
-                at: at + 1,
-                depth: depth + 1,
-            }
+            frames.push(Frame::Repeat(at + 1, n));
+            at + 1
         }
-        Move::Phrase(_) => Place { at: at + 1, depth },
+        Move::Phrase(_) => at + 1,
         Move::Call(_) => {
-            frames[depth] = kept(at, 0);
-            Place {
-                at: body,
-                depth: depth + 1,
-            }
+            frames.push(Frame::Call(at + 1));
+            body
         }
-        Move::Tal => close_repeat(place, frames),
-        Move::End => close_phrase(place, frames),
+        Move::Tal => close_repeat(at, frames),
+        Move::End => close_phrase(at, frames),
     }
 }

@@ -6,25 +6,17 @@ ghost use Rattle.moves.specs.Noted.{body_in, starts_after};
 
 use crate::Move;
 
-fn wide(n: u16) -> usize
-    ensures { result ≡ n }
-{
-    n as usize
-}
-
 // internal: where the body that a CAL stands for begins, 0 for any other pair. A DEF's own is noted.
 pub fn body_of(m: Move, at: usize, starts: &mut [u16; 24]) -> usize
     requires { (at < 32768) × BoundedMove m }
     ensures { (result ≡ body_in m starts.old) × (starts.new ≡ starts_after m at starts.old) }
 {
     match m {
-        Move::Repeat(_) => 0,
         Move::Phrase(k) => {
-            starts[wide(k)] = (at + 1) as u16;
+            starts[usize::from(k)] = (at + 1) as u16;
             0
         }
-        Move::Call(k) => wide(starts[wide(k)]),
-        Move::Tal => 0,
-        Move::End => 0,
+        Move::Call(k) => usize::from(starts[usize::from(k)]),
+        Move::Repeat(_) | Move::Tal | Move::End => 0,
     }
 }

@@ -2,29 +2,18 @@
 -- comes from its container.
 -- head-above    a file whose head is right is refused with a number above 24
 -- low-number    a file that is refused with a number up to 26 is refused so by its container
-use Rattle.std.specs.Prelude.{ℕ, ◌+◌, ◌<◌, ◌≤◌, ◌≡◌, refl, List, [], ◌∷◌, length}
-use Rattle.std.proofs.Common.{subst, arith, lit<}
+use Rattle.std.specs.Prelude.{ℕ, ◌<◌, ◌≤◌, ◌≡◌, refl, List}
+use Rattle.std.proofs.Common.{subst, arith}
 use Rattle.fields.specs.declared.Span.{Span}
-use Rattle.meaning.specs.declared.Meaning.{Meaning}
 use Rattle.refusals.specs.Numbers.{Outcome}
 use Rattle.refusals.specs.Numbers.Outcome.{accepted, refused}
-use Rattle.refusals.specs.declared.Verdict.{Verdict}
-use Rattle.refusals.specs.declared.Verdict.TheVariants.{Passed, Failed}
-use Rattle.refusals.specs.Tests.{Test, first_of, and_then}
+use Rattle.refusals.specs.Tests.{and_then}
 use Rattle.container.specs.declared.Voices.{Voices}
 use Rattle.container.specs.declared.Layout.{Layout}
 use Rattle.container.specs.Head.{head_outcome}
 use Rattle.container.specs.Layout.{container_outcome}
-use Rattle.container.specs.ByNumber.{EachNumber, first-each, text-number}
+use Rattle.container.specs.ByNumber.{text-number}
 use Rattle.bodies.specs.Voice.{pairs}
-use Rattle.bodies.specs.Playing.{events_of, walked_of}
-use Rattle.structure.specs.declared.Finding.{Finding}
-use Rattle.structure.specs.declared.Finding.TheVariants.{Clear, At}
-use Rattle.structure.specs.Tests.{Nesting, start}
-use Rattle.structure.specs.Findings.{found_at, first_at, pairs_tests, nestings_tests, pairs_finding, structure_finding}
-use Rattle.counts.specs.declared.Counted.TheVariants.{Within}
-use Rattle.counts.specs.Limits.{limit_tests, unless_off, count_outcome}
-use Rattle.mus.specs.Voices.{or_found, limited, voice_by, voice_outcome}
 use Rattle.mus.specs.Song.{voice_in, song_with, song_in, song_by, mus_outcome}
 use Rattle.mus.specs.ByNumber.{Above, voice-above}
 

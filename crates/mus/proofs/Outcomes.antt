@@ -14,7 +14,7 @@ use mathlib.Core.List.{List}
 use native.Mathlib.Omega.{arith}
 use lib.Dec.{ltb}
 use lib.ListN.{length, take, drop, length-take, length-drop}
-use Rattle.refusals.specs.Numbers.{Outcome}
+use Rattle.refusals.specs.Numbers.{Outcome, number_of}
 use Rattle.refusals.specs.Numbers.Outcome.{accepted, refused}
 use Rattle.refusals.specs.Tests.{and_then}
 use Rattle.container.specs.declared.Layout.{Layout}
@@ -23,9 +23,10 @@ use Rattle.container.specs.Laws.{layout_none, layout_of_lem, short-file, voice1-
 use Rattle.bodies.specs.Voice.{pairs}
 use Rattle.bodies.specs.Order as order
 use Rattle.bodies.proofs.Stored.{length_pairs}
-use Rattle.structure.specs.declared.Finding.TheVariants.{Clear, At}
+use Rattle.std.specs.Prelude.{Err}
+use Rattle.structure.specs.declared.Finding.{Finding}
 use Rattle.structure.specs.Tests.{start}
-use Rattle.structure.specs.Findings.{pairs_finding, structure_finding, pairs_tests, nestings_tests}
+use Rattle.structure.specs.Findings.{Clear, pairs_finding, structure_finding, pairs_tests, nestings_tests}
 use Rattle.structure.specs.Laws.{clear_none, pairs-within, structure-within}
 use Rattle.structure.proofs.Sound.{sound}
 use Rattle.counts.specs.Limits.{count_outcome}
@@ -38,13 +39,14 @@ use Rattle.mus.specs.Asked.{song_voice, voice_asked}
 use Rattle.mus.specs.AskedLaws.{file-next}
 
 module _ (offset : ℕ) (bs : List ℕ) where
-  pub pairs-refused : (n i : ℕ) → pairs_finding (pairs bs) ≡ At n i → voice_outcome offset bs ≡ refused n (offset + 2 * i)
+  pub pairs-refused : (x : Finding) → pairs_finding (pairs bs) ≡ Err x → voice_outcome offset bs ≡ refused (number_of x.reason) (offset + 2 * x.pair)
   unfolding voice_by
-  pairs-refused n i e = rw e
+  pairs-refused x e = rw e
 
-  pub structure-refused : (n i : ℕ) → pairs_finding (pairs bs) ≡ Clear → structure_finding (pairs bs) ≡ At n i → voice_outcome offset bs ≡ refused n (offset + 2 * i)
+  pub structure-refused : (x : Finding) → pairs_finding (pairs bs) ≡ Clear → structure_finding (pairs bs) ≡ Err x
+      → voice_outcome offset bs ≡ refused (number_of x.reason) (offset + 2 * x.pair)
   unfolding voice_by
-  structure-refused n i e g = rw (e, g)
+  structure-refused x e g = rw (e, g)
 
   pub both-clear : pairs_finding (pairs bs) ≡ Clear → structure_finding (pairs bs) ≡ Clear → voice_outcome offset bs ≡ limited offset (length bs) (count_outcome (pairs bs))
   unfolding voice_by
@@ -54,11 +56,11 @@ pub clear-sound : (bs : List ℕ) → pairs_finding (pairs bs) ≡ Clear → str
 unfolding pairs_finding structure_finding
 clear-sound bs e g = sound (pairs bs) (clear_none 0 (pairs_tests (pairs bs)) e) (clear_none 0 (nestings_tests start (pairs bs)) g)
 
-pub pairs-few : (bs : List ℕ) (n i : ℕ) → length bs ≤ 65536 → pairs_finding (pairs bs) ≡ At n i → i ≤ 65536
-pairs-few bs n i h e = omega (arith, pairs-within (pairs bs) n i e, length_pairs bs)
+pub pairs-few : (bs : List ℕ) (x : Finding) → length bs ≤ 65536 → pairs_finding (pairs bs) ≡ Err x → x.pair ≤ 65536
+pairs-few bs x h e = omega (arith, pairs-within (pairs bs) x.reason x.pair e, length_pairs bs)
 
-pub structure-few : (bs : List ℕ) (n i : ℕ) → length bs ≤ 65536 → structure_finding (pairs bs) ≡ At n i → i ≤ 65536
-structure-few bs n i h e = omega (arith, structure-within (pairs bs) n i e, length_pairs bs)
+pub structure-few : (bs : List ℕ) (x : Finding) → length bs ≤ 65536 → structure_finding (pairs bs) ≡ Err x → x.pair ≤ 65536
+structure-few bs x h e = omega (arith, structure-within (pairs bs) x.reason x.pair e, length_pairs bs)
 
 pub part-short : (f : List ℕ) (from len : ℕ) → length f ≤ 65536 → length (take len (drop from f)) ≤ 65536
 part-short f from len h = omega (arith, length-take len (drop from f), length-drop from f)

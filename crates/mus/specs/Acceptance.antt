@@ -17,20 +17,18 @@ use Rattle.refusals.specs.Numbers.{Outcome}
 use Rattle.refusals.specs.Numbers.Outcome.{accepted, refused}
 use Rattle.refusals.specs.Tests.{None, first_of, and_then}
 use Rattle.refusals.specs.Laws.{passed_none, none_passed, two_ways, accepted-once}
-use Rattle.refusals.specs.declared.Verdict.{Verdict}
-use Rattle.refusals.specs.declared.Verdict.TheVariants.{Passed, Failed}
+use Rattle.refusals.specs.Tests.{Verdict}
+use Rattle.std.specs.Prelude.{Ok, Err}
 use Rattle.container.specs.declared.Layout.{Layout}
 use Rattle.container.specs.Layout.{layout_of, container_tests, container_outcome}
 use Rattle.container.specs.Laws.{none_layout, layout_none, layout_of_lem}
 use Rattle.bodies.specs.Voice.{pairs}
 use Rattle.bodies.specs.Playing.{events_of, walked_of}
-use Rattle.structure.specs.declared.Finding.{Finding}
-use Rattle.structure.specs.declared.Finding.TheVariants as Finding
+use Rattle.structure.specs.Findings as finding
 use Rattle.structure.specs.Tests.{start}
-use Rattle.structure.specs.Findings.{pairs_tests, nestings_tests, pairs_finding, structure_finding, AllNone}
+use Rattle.structure.specs.Findings.{Found, pairs_tests, nestings_tests, pairs_finding, structure_finding, AllNone}
 use Rattle.structure.specs.Laws.{clear_none, none_clear}
-use Rattle.counts.specs.declared.Counted.TheVariants.{Within}
-use Rattle.counts.specs.Limits.{limit_tests, unless_off}
+use Rattle.counts.specs.Limits.{Within, limit_tests, unless_off}
 use Rattle.mus.specs.declared.Voice.{Voice}
 use Rattle.mus.specs.declared.Song.{Song}
 use Rattle.mus.specs.Voices.{or_found, limited, voice_by, voice_outcome}
@@ -57,16 +55,16 @@ passes-voice offset bs p =
     (none_passed (limit_tests (pairs bs)) p.limits))
 
 -- Where a voice is accepted after a look at its pairs, the look found nothing, and the rest accepts it.
-pub found_none : {A : Type 0} (offset : ℕ) (x : Finding) (o : Outcome A) (a : A) → or_found offset x o ≡ accepted a
-    → (x ≡ Finding.Clear) × (o ≡ accepted a)
-found_none offset Finding.Clear o a e = (refl, e)
-found_none offset (Finding.At n i) o a e = absurd (two_ways e)
+pub found_none : {A : Type 0} (offset : ℕ) (x : Found) (o : Outcome A) (a : A) → or_found offset x o ≡ accepted a
+    → (x ≡ finding.Clear) × (o ≡ accepted a)
+found_none offset (Ok u) o a e = (refl, e)
+found_none offset (Err y) o a e = absurd (two_ways e)
 
 limited_none : (offset len : ℕ) (x : Verdict) (events walked : ℕ) (v : Voice)
     → limited offset len (unless_off x (Within events walked)) ≡ accepted v
-    → (x ≡ Passed) × (record { offset = offset; length = len; events = events; walked = walked } ≡ v)
-limited_none offset len Passed events walked v e = (refl, cc)
-limited_none offset len (Failed n) events walked v e = absurd (two_ways e)
+    → (x ≡ Ok tt) × (record { offset = offset; length = len; events = events; walked = walked } ≡ v)
+limited_none offset len (Ok u) events walked v e = (refl, cc)
+limited_none offset len (Err n) events walked v e = absurd (two_ways e)
 
 -- An accepted voice is one to which none of 27 to 33 applies, and what is reported of it is voice_report.
 pub voice-passes : (offset : ℕ) (bs : List ℕ) (v : Voice) → voice_outcome offset bs ≡ accepted v

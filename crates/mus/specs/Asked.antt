@@ -7,16 +7,18 @@
 -- voice_asked    the same with document 01's reader, pairs
 -- bytes_of       a voice's bytes in the file
 use Rattle.std.specs.Prelude.{ℕ, ◌||◌, cond, List, [], ◌∷◌, eqb, ltb, take, drop}
-use Rattle.refusals.specs.Numbers.{Outcome, voice_number}
+use Rattle.refusals.specs.Numbers.{Outcome}
+use Rattle.refusals.specs.declared.Reason.TheVariants.{VoiceNumber}
 use Rattle.refusals.specs.Numbers.Outcome.{accepted}
-use Rattle.refusals.specs.Tests.{Test, test, first_of, guarded, and_then}
+use Rattle.refusals.specs.declared.Test.{Test}
+use Rattle.refusals.specs.Tests.{test, first_of, guarded, and_then}
 use Rattle.bodies.specs.Voice.{Reader, pairs}
 use Rattle.mus.specs.declared.Voice.{Voice}
 use Rattle.mus.specs.declared.Song.{Song}
 use Rattle.mus.specs.Song.{song_by}
 
 abbrev pub number_tests : ℕ → List Test
-number_tests n = test voice_number (ltb n 1 || ltb 3 n) ∷ []
+number_tests n = test VoiceNumber (ltb n 1 || ltb 3 n) ∷ []
 
 abbrev pub song_voice : Song → ℕ → Voice
 song_voice s n = cond (eqb n 1) s.voice1 (cond (eqb n 2) s.voice2 s.voice3)

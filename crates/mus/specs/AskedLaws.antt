@@ -5,34 +5,30 @@
 -- voice-bytes               a voice's bytes are those that the container gives it
 -- in_song                   each voice of a song is as acceptance has reported it (InSong); the voice that is
 --                           asked for too: proofs/Asked.antt
-use Rattle.std.specs.Prelude.{ℕ, zero, suc, ◌≤◌, ◌≡◌, refl, true, false, ◌||◌, List, [], ◌∷◌, eqb, ltb, length, take, drop}
-use Rattle.std.proofs.Common.{sym, ap, subst, arith, length-take, length-drop}
+use Rattle.std.specs.Prelude.{Result, ℕ, zero, suc, ◌≤◌, ◌≡◌, refl, true, false, ◌||◌, List, [], ◌∷◌, eqb, ltb, length, take, drop}
+use Rattle.std.proofs.Common.{ap, subst, arith, length-take, length-drop}
 use Rattle.logic.specs.Cases.{cases}
 use Rattle.fields.specs.declared.Span.{Span}
 use Rattle.fields.specs.Parts.{part_of}
+use Rattle.refusals.specs.declared.Refusal.{Refusal}
+use Rattle.refusals.specs.Numbers.{outcome_of}
 use Rattle.refusals.specs.Numbers.Outcome.{accepted, refused}
 use Rattle.refusals.specs.Tests.{first_of, and_then}
-use Rattle.refusals.specs.Laws.{passed_none, two_ways, accepted-once, guarded-passed, refused-once}
+use Rattle.refusals.specs.Laws.{passed_none, accepted-once, guarded-passed, outcome-once}
 use Rattle.container.specs.Head.{head_of, voices_of, voice_span}
 use Rattle.container.specs.Layout.{layout_of}
 use Rattle.container.specs.Laws.{VoiceFits, short-file, voice1-fits, voice2-fits, voice3-fits}
 use Rattle.bodies.specs.Voice.{pairs}
 use Rattle.mus.specs.declared.Voice.{Voice}
 use Rattle.mus.specs.declared.Song.{Song}
-use Rattle.mus.specs.declared.VoiceAnswer.{VoiceAnswer}
-use Rattle.mus.specs.declared.VoiceAnswer.TheVariants.{Accepted, Refused}
-use Rattle.mus.specs.Voices.{outcome_of_voice}
 use Rattle.mus.specs.Song.{mus_outcome}
 use Rattle.mus.specs.Asked.{number_tests, song_voice, asked_by, voice_asked, bytes_of}
 use Rattle.mus.specs.Acceptance.{Passes, voice_report, song_of, accepted-clear, then_given}
 use Rattle.mus.specs.Bounds.{InSong}
 
 -- No two answers have the same outcome.
-pub voice-once : (a b : VoiceAnswer) → outcome_of_voice a ≡ outcome_of_voice b → a ≡ b
-voice-once (Accepted v) (Accepted w) e = let same : v ≡ w = cc in rw same
-voice-once (Accepted v) (Refused y) e = absurd (two_ways (sym e))
-voice-once (Refused x) (Accepted w) e = absurd (two_ways e)
-voice-once (Refused x) (Refused y) e = ap Refused (refused-once {X = Voice} x y e)
+pub voice-once : (a b : Result Voice Refusal) → outcome_of a ≡ outcome_of b → a ≡ b
+voice-once = outcome-once
 
 -- What an answer other than a refusal says: the number is 1 to 3, the file is accepted, and the voice is that
 -- one of it.

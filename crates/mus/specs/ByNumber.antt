@@ -2,30 +2,23 @@
 -- proofs/ByNumber.antt.
 -- Above         a refusal's number is above another number
 -- voice-above   a voice is refused with a number above 26
-use Rattle.std.specs.Prelude.{ℕ, ◌+◌, ◌<◌, ◌≤◌, ◌≡◌, refl, List, [], ◌∷◌, length}
-use Rattle.std.proofs.Common.{subst, arith, lit<}
-use Rattle.fields.specs.declared.Span.{Span}
+use Rattle.std.specs.Prelude.{ℕ, ◌+◌, ◌<◌, ◌≡◌, refl, List, [], ◌∷◌, length}
+use Rattle.std.proofs.Common.{ap, subst, arith, lit<}
 use Rattle.meaning.specs.declared.Meaning.{Meaning}
-use Rattle.refusals.specs.Numbers.{Outcome}
+use Rattle.refusals.specs.declared.Reason.{Reason}
+use Rattle.refusals.specs.Numbers.{Outcome, number_of}
 use Rattle.refusals.specs.Numbers.Outcome.{accepted, refused}
-use Rattle.refusals.specs.declared.Verdict.{Verdict}
-use Rattle.refusals.specs.declared.Verdict.TheVariants.{Passed, Failed}
-use Rattle.refusals.specs.Tests.{Test, first_of, and_then}
-use Rattle.container.specs.declared.Voices.{Voices}
-use Rattle.container.specs.declared.Layout.{Layout}
-use Rattle.container.specs.Head.{head_outcome}
-use Rattle.container.specs.Layout.{container_outcome}
-use Rattle.container.specs.ByNumber.{EachNumber, first-each, text-number}
+use Rattle.refusals.specs.Tests.{Verdict}
+use Rattle.std.specs.Prelude.{Ok, Err}
+use Rattle.refusals.specs.declared.Test.{Test}
+use Rattle.refusals.specs.Tests.{first_of}
+use Rattle.container.specs.ByNumber.{EachNumber, first-each}
 use Rattle.bodies.specs.Voice.{pairs}
 use Rattle.bodies.specs.Playing.{events_of, walked_of}
-use Rattle.structure.specs.declared.Finding.{Finding}
-use Rattle.structure.specs.declared.Finding.TheVariants.{Clear, At}
 use Rattle.structure.specs.Tests.{Nesting, start}
-use Rattle.structure.specs.Findings.{found_at, first_at, pairs_tests, nestings_tests, pairs_finding, structure_finding}
-use Rattle.counts.specs.declared.Counted.TheVariants.{Within}
-use Rattle.counts.specs.Limits.{limit_tests, unless_off, count_outcome}
+use Rattle.structure.specs.Findings.{Found, At, found_at, first_at, pairs_tests, nestings_tests, pairs_finding, structure_finding}
+use Rattle.counts.specs.Limits.{Within, limit_tests, unless_off, count_outcome}
 use Rattle.mus.specs.Voices.{or_found, limited, voice_by, voice_outcome}
-use Rattle.mus.specs.Song.{voice_in, song_with, song_in, song_by, mus_outcome}
 
 abbrev pub Above : {A : Type 0} → ℕ → Outcome A → Type 0
 Above k (accepted a) = Unit
@@ -49,25 +42,30 @@ unfolding nestings_tests
 nestings_late [] o = tt
 nestings_late (m ∷ ms) o = ((lit< tt, (lit< tt, tt)), nestings_late ms _)
 
-found_late : (i : ℕ) (tss : List (List Test)) → EachPair tss → (n j : ℕ) → first_at i tss ≡ At n j → Late n
+-- the reason of what is found, and another where nothing is
+abbrev reason_found : Reason → Found → Reason
+reason_found r (Ok u) = r
+reason_found r (Err x) = x.reason
+
+found_late : (i : ℕ) (tss : List (List Test)) → EachPair tss → (n : Reason) (j : ℕ) → first_at i tss ≡ At n j → Late (number_of n)
 unfolding first_at
 found_late i [] h n j e = absurd (let z : ◌≡◌ {A = ℕ} 0 1 = cc in omega arith)
 found_late i (ts ∷ later) h n j e = go (first_of ts) refl (found_late (i + 1) later h.1 n j) e
   where
-    go : (v : Verdict) → first_of ts ≡ v → (first_at (i + 1) later ≡ At n j → Late n) → found_at v i (first_at (i + 1) later) ≡ At n j → Late n
-    go Passed q rest r = rest r
-    go (Failed m) q rest r = let is : m ≡ n = cc in subst Late is (first-each Late ts h.0 m q)
+    go : (v : Verdict) → first_of ts ≡ v → (first_at (i + 1) later ≡ At n j → Late (number_of n)) → found_at v i (first_at (i + 1) later) ≡ At n j → Late (number_of n)
+    go (Ok u) q rest r = rest r
+    go (Err m) q rest r = let is : m ≡ n = ap (reason_found m) r in subst (λ s. Late (number_of s)) is (first-each Late ts h.0 m q)
 
-or_found-above : {A : Type 0} (offset : ℕ) (x : Finding) (later : Outcome A) → ((n i : ℕ) → x ≡ At n i → Late n) → Above 26 later → Above 26 (or_found offset x later)
-or_found-above offset Clear later h l = l
-or_found-above offset (At n i) later h l = h n i refl
+or_found-above : {A : Type 0} (offset : ℕ) (x : Found) (later : Outcome A) → ((n : Reason) (i : ℕ) → x ≡ At n i → Late (number_of n)) → Above 26 later → Above 26 (or_found offset x later)
+or_found-above offset (Ok u) later h l = l
+or_found-above offset (Err x) later h l = h x.reason x.pair refl
 
 limited-above : (offset len : ℕ) (v : List (Outcome Meaning)) → Above 26 (limited offset len (count_outcome v))
 limited-above offset len v = go (first_of (limit_tests v)) refl
   where
     go : (x : Verdict) → first_of (limit_tests v) ≡ x → Above 26 (limited offset len (unless_off x (Within (events_of v) (walked_of v))))
-    go Passed e = tt
-    go (Failed n) e = first-each Late (limit_tests v) (lit< tt, (lit< tt, tt)) n e
+    go (Ok u) e = tt
+    go (Err n) e = first-each Late (limit_tests v) (lit< tt, (lit< tt, tt)) n e
 
 -- A voice is refused with a number above 26, or accepted.
 pub voice-above : (offset : ℕ) (bs : List ℕ) → Above 26 (voice_outcome offset bs)

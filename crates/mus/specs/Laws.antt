@@ -4,25 +4,22 @@
 -- head-refused                 21 to 24 by the file's head
 -- long-refused, song-cut-off   a file of more than 65,536 bytes is 22, and so are its first n bytes for n
 --                              above 65,536
-use Rattle.std.specs.Prelude.{ℕ, ◌<◌, ◌≡◌, List, length, take}
-use Rattle.std.proofs.Common.{sym, ap, ◌∙◌, arith, length-take}
+use Rattle.std.specs.Prelude.{Result, ℕ, ◌<◌, ◌≡◌, List, length, take}
+use Rattle.std.proofs.Common.{sym, ◌∙◌, arith, length-take}
+use Rattle.refusals.specs.declared.Refusal.{Refusal}
+use Rattle.refusals.specs.Numbers.{outcome_of}
 use Rattle.refusals.specs.Numbers.Outcome.{refused}
-use Rattle.refusals.specs.Laws.{two_ways, refused-once}
+use Rattle.refusals.specs.Laws.{outcome-once}
 use Rattle.container.specs.Head.{head_outcome}
 use Rattle.container.specs.Layout.{container_outcome}
 use Rattle.container.specs.Laws.{head_first, long-head}
 use Rattle.bodies.specs.Voice.{Reader, pairs}
 use Rattle.mus.specs.declared.Song.{Song}
-use Rattle.mus.specs.declared.Reading.{Reading}
-use Rattle.mus.specs.declared.Reading.TheVariants.{Accepted, Refused}
-use Rattle.mus.specs.Song.{song_by, mus_outcome, outcome_of_song}
+use Rattle.mus.specs.Song.{song_by, mus_outcome}
 
 -- No two answers have the same outcome.
-pub song-once : (a b : Reading) → outcome_of_song a ≡ outcome_of_song b → a ≡ b
-song-once (Accepted s) (Accepted t) e = let same : s ≡ t = cc in rw same
-song-once (Accepted s) (Refused y) e = absurd (two_ways (sym e))
-song-once (Refused x) (Accepted t) e = absurd (two_ways e)
-song-once (Refused x) (Refused y) e = ap Refused (refused-once {X = Song} x y e)
+pub song-once : (a b : Result Song Refusal) → outcome_of a ≡ outcome_of b → a ≡ b
+song-once = outcome-once
 
 -- A file whose container one of 21 to 26 refuses is refused so, by every reader of pairs.
 pub container-refused : (read : Reader) (f : List ℕ) (n p : ℕ) → container_outcome f ≡ refused n p → song_by read f ≡ refused n p

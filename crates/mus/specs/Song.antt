@@ -5,11 +5,10 @@
 -- song_in          voice 1, 2, 3 of a file whose container is right, by the outcome of a voice
 -- song_by          a file accepted or refused, where read is the way to read pairs
 -- mus_outcome      the same with document 01's reader, pairs
--- outcome_of_song   what an answer says
 use Rattle.std.specs.Prelude.{ℕ, List}
 use Rattle.fields.specs.Parts.{part_of}
 use Rattle.refusals.specs.Numbers.{Outcome}
-use Rattle.refusals.specs.Numbers.Outcome.{accepted, refused}
+use Rattle.refusals.specs.Numbers.Outcome.{accepted}
 use Rattle.refusals.specs.Tests.{and_then}
 use Rattle.fields.specs.declared.Span.{Span}
 use Rattle.container.specs.declared.Layout.{Layout}
@@ -17,8 +16,6 @@ use Rattle.container.specs.Layout.{container_outcome}
 use Rattle.bodies.specs.Voice.{Reader, pairs}
 use Rattle.mus.specs.declared.Voice.{Voice}
 use Rattle.mus.specs.declared.Song.{Song}
-use Rattle.mus.specs.declared.Reading.{Reading}
-use Rattle.mus.specs.declared.Reading.TheVariants.{Accepted, Refused}
 use Rattle.mus.specs.Voices.{voice_by}
 
 abbrev pub voice_in : Reader → List ℕ → Span → Outcome Voice
@@ -50,7 +47,3 @@ song_by read f = and_then (container_outcome f) (λ l. song_in (voice_in read f)
 
 abbrev pub mus_outcome : List ℕ → Outcome Song
 mus_outcome f = song_by pairs f
-
-abbrev pub outcome_of_song : Reading → Outcome Song
-outcome_of_song (Accepted s) = accepted s
-outcome_of_song (Refused x) = refused x.number x.place

@@ -6,28 +6,23 @@
 -- voice_by          a voice accepted or refused, where read is the way to read its pairs (Reader of
 --                  crates/bodies/specs/Voice.antt)
 -- voice_outcome     the same with document 01's reader, pairs
--- outcome_of_voice   what a voice's answer says
-use Rattle.std.specs.Prelude.{ℕ, ◌+◌, ◌*◌, List, length}
-use Rattle.refusals.specs.Numbers.{Outcome}
+use Rattle.std.specs.Prelude.{Result, Ok, Err, ℕ, ◌+◌, ◌*◌, List, length}
+use Rattle.refusals.specs.Numbers.{Outcome, number_of}
 use Rattle.refusals.specs.Numbers.Outcome.{accepted, refused}
+use Rattle.refusals.specs.declared.Reason.{Reason}
 use Rattle.bodies.specs.Voice.{Reader, pairs}
-use Rattle.structure.specs.declared.Finding.{Finding}
-use Rattle.structure.specs.declared.Finding.TheVariants.{Clear, At}
-use Rattle.structure.specs.Findings.{pairs_finding, structure_finding}
-use Rattle.counts.specs.declared.Counted.{Counted}
-use Rattle.counts.specs.declared.Counted.TheVariants.{Within, Off}
+use Rattle.structure.specs.Findings.{Found, pairs_finding, structure_finding}
+use Rattle.counts.specs.declared.Walk.{Walk}
 use Rattle.counts.specs.Limits.{count_outcome}
 use Rattle.mus.specs.declared.Voice.{Voice}
-use Rattle.mus.specs.declared.VoiceAnswer.{VoiceAnswer}
-use Rattle.mus.specs.declared.VoiceAnswer.TheVariants.{Accepted, Refused}
 
-abbrev pub or_found : {A : Type 0} → ℕ → Finding → Outcome A → Outcome A
-or_found offset Clear later = later
-or_found offset (At number i) later = refused number (offset + 2 * i)
+abbrev pub or_found : {A : Type 0} → ℕ → Found → Outcome A → Outcome A
+or_found offset (Ok u) later = later
+or_found offset (Err x) later = refused (number_of x.reason) (offset + 2 * x.pair)
 
-abbrev pub limited : ℕ → ℕ → Counted → Outcome Voice
-limited offset len (Within events walked) = accepted (record { offset = offset; length = len; events = events; walked = walked })
-limited offset len (Off number) = refused number offset
+abbrev pub limited : ℕ → ℕ → Result Walk Reason → Outcome Voice
+limited offset len (Ok w) = accepted (record { offset = offset; length = len; events = w.events; walked = w.walked })
+limited offset len (Err r) = refused (number_of r) offset
 
 unfoldable pub voice_by : Reader → ℕ → List ℕ → Outcome Voice
 voice_by read offset bs =
@@ -37,7 +32,3 @@ voice_by read offset bs =
 
 abbrev pub voice_outcome : ℕ → List ℕ → Outcome Voice
 voice_outcome offset bs = voice_by pairs offset bs
-
-abbrev pub outcome_of_voice : VoiceAnswer → Outcome Voice
-outcome_of_voice (Accepted v) = accepted v
-outcome_of_voice (Refused x) = refused x.number x.place

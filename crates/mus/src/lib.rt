@@ -3,14 +3,13 @@
 #![tactic(auto)]
 
 ghost use Rattle.std.specs.Prelude.{◌≡◌};
-ghost use Rattle.mus.specs.Song.{mus_outcome, outcome_of_song};
-ghost use Rattle.mus.specs.Voices.{outcome_of_voice};
+ghost use Rattle.refusals.specs.Numbers.{outcome_of};
+ghost use Rattle.mus.specs.Song.{mus_outcome};
 ghost use Rattle.mus.specs.Asked.{voice_asked};
-ghost use Rattle.mus.specs.Text.{line_asked, outcome_of_line};
+ghost use Rattle.mus.specs.Text.{line_asked};
 
-use container::Container;
 use fields::Span;
-use refusals::Refusal;
+use refusals::{Reason, Refusal};
 
 mod voices;
 
@@ -38,60 +37,30 @@ pub struct Song {
     pub line5: Span,
 }
 
-// The answer to a file.
-#[derive(Clone, Copy)]
-pub enum Reading {
-    Accepted(Song),
-    Refused(Refusal),
-}
-
-// The answer to a voice.
-#[derive(Clone, Copy)]
-pub enum VoiceAnswer {
-    Accepted(Voice),
-    Refused(Refusal),
-}
-
-// The answer to a caller who names a text line: where it lies, without the $0D that closes it; that there is
-// no line of that number; or the file's refusal.
-#[derive(Clone, Copy)]
-pub enum LineAnswer {
-    At(Span),
-    NoSuchLine,
-    Refused(Refusal),
-}
-
 // Accepts a file, or gives the first refusal that applies: 21 to 26, then voice 1, 2 and 3, each 27 to 33.
-pub fn accept(file: &[u8]) -> Reading
-    ensures { outcome_of_song result ≡ mus_outcome file.now }
+pub fn accept(file: &[u8]) -> Result<Song, Refusal>
+    ensures { outcome_of result ≡ mus_outcome file.now }
 {
-    match container::read_container(file) {
-        Container::Refused(x) => Reading::Refused(x),
-        Container::Fits(l) => voices::accept_voices(file, l),
-    }
+    let l = container::read_container(file)?;
+    voices::accept_voices(file, l)
 }
 
 // A voice of an accepted file by its number, 1 to 3. Refused with 41 for any other number, else with the
 // file's own refusal.
-pub fn read_voice(file: &[u8], number: u32) -> VoiceAnswer
-    ensures { outcome_of_voice result ≡ voice_asked file.now number }
+pub fn read_voice(file: &[u8], number: u32) -> Result<Voice, Refusal>
+    ensures { outcome_of result ≡ voice_asked file.now number }
 {
     if (number < 1) | (3 < number) {
-        return VoiceAnswer::Refused(Refusal::unplaced(refusals::VOICE_NUMBER));
+        return Err(Reason::VoiceNumber.into());
     }
-    match accept(file) {
-        Reading::Refused(x) => VoiceAnswer::Refused(x),
-        Reading::Accepted(song) => VoiceAnswer::Accepted(voices::voice_of(song, number)),
-    }
+    let song = accept(file)?;
+    Ok(voices::voice_of(song, number))
 }
 
-// A text line of an accepted file by its number, 1 to 5: where it lies in the file. A refused file is
-// answered with its own refusal. For any other number there is no such line.
-pub fn text_line(file: &[u8], number: u64) -> LineAnswer
-    ensures { outcome_of_line result ≡ line_asked file.now number }
+// A text line of an accepted file by its number, 1 to 5: where it lies in the file, without the $0D that
+// closes it. A refused file is answered with its own refusal. For any other number there is no such line.
+pub fn text_line(file: &[u8], number: u64) -> Result<Option<Span>, Refusal>
+    ensures { outcome_of result ≡ line_asked file.now number }
 {
-    match accept(file) {
-        Reading::Refused(x) => LineAnswer::Refused(x),
-        Reading::Accepted(song) => voices::line_of(song, number),
-    }
+    Ok(voices::line_of(accept(file)?, number))
 }

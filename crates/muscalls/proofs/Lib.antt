@@ -1,4 +1,3 @@
-pub mod Numbers
 pub mod Places
 pub mod Accepted
 pub mod Laws

@@ -9,23 +9,21 @@ use Rattle.fields.specs.Parts.{part_of}
 use Rattle.fields.specs.declared.Span.{Span}
 use Rattle.refusals.specs.Numbers.{Outcome}
 use Rattle.refusals.specs.Numbers.Outcome.{accepted, refused}
-use Rattle.refusals.specs.declared.Verdict.{Verdict}
-use Rattle.refusals.specs.declared.Verdict.TheVariants.{Passed, Failed}
+use Rattle.refusals.specs.Tests.{Verdict}
+use Rattle.std.specs.Prelude.{Ok, Err}
 use Rattle.refusals.specs.Tests.{first_of, guarded, and_then}
-use Rattle.refusals.specs.Laws.{first_above}
 use Rattle.meaning.specs.declared.Meaning.{Meaning}
 use Rattle.container.specs.declared.Layout.{Layout}
 use Rattle.container.specs.Layout.{layout_of, container_tests, container_outcome}
 use Rattle.bodies.specs.Voice.{pairs}
 use Rattle.bodies.specs.Playing.{events_of, walked_of}
 use Rattle.bodies.proofs.Stored.{length_pairs}
-use Rattle.structure.specs.declared.Finding.{Finding}
-use Rattle.structure.specs.declared.Finding.TheVariants.{Clear, At}
-use Rattle.structure.specs.Findings.{pairs_tests, nestings_tests, pairs_finding, structure_finding}
+use Rattle.refusals.specs.declared.Reason.{Reason}
+use Rattle.refusals.specs.Numbers.{number_of, number-above}
+use Rattle.structure.specs.Findings.{Found, At, pairs_tests, nestings_tests, pairs_finding, structure_finding}
 use Rattle.structure.specs.Tests.{start}
 use Rattle.structure.specs.Laws.{pairs-within, structure-within}
-use Rattle.counts.specs.declared.Counted.TheVariants.{Within}
-use Rattle.counts.specs.Limits.{limit_tests, unless_off, count_outcome}
+use Rattle.counts.specs.Limits.{Within, limit_tests, unless_off, count_outcome}
 use Rattle.mus.specs.declared.Voice.{Voice}
 use Rattle.mus.specs.Voices.{or_found, limited, voice_by}
 use Rattle.mus.specs.Song.{voice_in, song_with, song_in, song_by, mus_outcome}
@@ -34,31 +32,30 @@ use Rattle.mus.specs.Bounds.{InFile}
 use Rattle.mus.proofs.Outcomes.{in_file_lem}
 use Rattle.events.specs.Listing.{caller_tests, played_in, filled_by, listing_by, listing}
 use Rattle.answers.specs.Apart.{LowPlace, tests_low}
-use Rattle.muscalls.proofs.Numbers.{found-above}
 
 -- an outcome that comes after another
 then_low : {A B : Type 0} (o : Outcome A) (g : A → Outcome B) → LowPlace o → ((a : A) → o ≡ accepted a → LowPlace (g a)) → LowPlace (and_then o g)
 then_low (accepted a) g l h = h a refl
 then_low (refused n p) g l h = l
 
-found-low : {A : Type 0} (offset : ℕ) (x : Finding) (later : Outcome A) → ((n i : ℕ) → x ≡ At n i → (0 < n) × (offset + 2 * i ≤ 65536)) → LowPlace later → LowPlace (or_found offset x later)
-found-low offset Clear later h l = l
-found-low offset (At n i) later h l = h n i refl
+found-low : {A : Type 0} (offset : ℕ) (x : Found) (later : Outcome A) → ((r : Reason) (i : ℕ) → x ≡ At r i → offset + 2 * i ≤ 65536) → LowPlace later → LowPlace (or_found offset x later)
+found-low offset (Ok u) later h l = l
+found-low offset (Err y) later h l = (number-above y.reason, h y.reason y.pair refl)
 
 limited-low : (offset len : ℕ) (v : List (Outcome Meaning)) → offset ≤ 65536 → LowPlace (limited offset len (count_outcome v))
 limited-low offset len v h = go (first_of (limit_tests v)) refl
   where
     go : (x : Verdict) → first_of (limit_tests v) ≡ x → LowPlace (limited offset len (unless_off x (Within (events_of v) (walked_of v))))
-    go Passed e = tt
-    go (Failed n) e = (first_above (limit_tests v) n e, h)
+    go (Ok u) e = tt
+    go (Err r) e = (number-above r, h)
 
 -- a pair of a voice lies in the file
 voice-low : (f : List ℕ) (s : Span) → length f ≤ 65536 → s.from ≤ 65536 → LowPlace (voice_in pairs f s)
 unfolding voice_by pairs_finding structure_finding
 voice-low f s short low =
     let v = pairs (part_of f s) in
-    found-low s.from (pairs_finding v) (or_found s.from (structure_finding v) (limited s.from (length (part_of f s)) (count_outcome v))) (λ n i e. (found-above 0 (pairs_tests v) n i e, inside i (pairs-within v n i e)))
-    (found-low s.from (structure_finding v) (limited s.from (length (part_of f s)) (count_outcome v)) (λ n i e. (found-above 0 (nestings_tests start v) n i e, inside i (structure-within v n i e)))
+    found-low s.from (pairs_finding v) (or_found s.from (structure_finding v) (limited s.from (length (part_of f s)) (count_outcome v))) (λ r i e. inside i (pairs-within v r i e))
+    (found-low s.from (structure_finding v) (limited s.from (length (part_of f s)) (count_outcome v)) (λ r i e. inside i (structure-within v r i e))
     (limited-low s.from (length (part_of f s)) v low))
   where
     inside : (i : ℕ) → i < length (pairs (part_of f s)) → s.from + 2 * i ≤ 65536

@@ -8,8 +8,6 @@ ghost use Rattle.events.specs.Listing.{listing};
 ghost use Rattle.answers.specs.Answers.{packed, list_after};
 ghost use Rattle.muscalls.specs.Lists.{song_numbers};
 
-use events::Listed;
-
 mod songs;
 
 // internal: the body of tt_mus_accept.
@@ -18,8 +16,8 @@ pub fn accept(file: &[u8], out: &mut [u32]) -> u64
     ensures cells { out.new ≡ list_after song_numbers (mus_outcome file.now) out.old }
 {
     match mus::accept(file) {
-        mus::Reading::Refused(x) => answers::refused(x),
-        mus::Reading::Accepted(s) => {
+        Err(x) => answers::refused(x.reason.number(), x.place),
+        Ok(s) => {
             let numbers = songs::song_numbers(s);
             answers::fill(&numbers, out);
             12
@@ -34,7 +32,7 @@ pub fn list(file: &[u8], voice: u32, first: u64, offsets: &mut [u32], jiffies: &
     ensures times { jiffies.new ≡ (listing file.now voice first offsets.old jiffies.old).jiffies }
 {
     match events::list(file, voice, first, offsets, jiffies) {
-        Listed::Refused(x) => answers::refused(x),
-        Listed::Count(count) => count as u64,
+        Err(x) => answers::refused(x.reason.number(), x.place),
+        Ok(count) => count as u64,
     }
 }

@@ -19,7 +19,7 @@ use Rattle.container.specs.Laws.{VoiceFits, head_none, head-fits, short-file}
 use Rattle.mus.specs.declared.Song.{Song}
 use Rattle.mus.specs.Song.{mus_outcome}
 use Rattle.mus.specs.Text.{line_asked}
-use Rattle.mus.specs.Text.LinePlace.{lies}
+use Rattle.std.specs.Prelude.{Some}
 use Rattle.mus.specs.Acceptance.{song_of, then_given, accepted-clear}
 use Rattle.musparts.specs.Bounds.{NarrowSpan, NarrowVoices}
 use Rattle.musparts.specs.LineLaws.{line-inside}
@@ -33,11 +33,11 @@ load_narrow f s e =
     let past = (neither (ltb 65536 (length f)) (ltb 65536 (x.load + (length f - 2))) c.0.container.1.0).1 in
     subst (λ (t : Song). t.load ≤ 65536) c.1 (omega (arith, ltb-false 65536 (x.load + (length f - 2)) past))
 
-pub line_narrow : (f : List ℕ) (n : ℕ) (s : Span) → line_asked f n ≡ accepted (lies s) → NarrowSpan s
+pub line_narrow : (f : List ℕ) (n : ℕ) (s : Span) → line_asked f n ≡ accepted (Some s) → NarrowSpan s
 unfolding line_asked
 line_narrow f n s e =
     let inside = line-inside f n s e in
-    let given = then_given (mus_outcome f) _ (lies s) e in
+    let given = then_given (mus_outcome f) _ (Some s) e in
     let short = short-file f (accepted-clear f given.value given.was).0.container in
     record { from = omega arith; len = omega arith }
 

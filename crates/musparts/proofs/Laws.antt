@@ -7,8 +7,9 @@ use lib.Dec.{lit<}
 use lib.ListN.{length}
 use Rattle.container.specs.Head.{head_outcome}
 use Rattle.mus.specs.Song.{mus_outcome}
-use Rattle.mus.specs.Text.{LinePlace, line_asked}
-use Rattle.mus.specs.Text.LinePlace.{lies, no_line}
+use Rattle.mus.specs.Text.{line_asked}
+use Rattle.std.specs.Prelude.{Option, Some, None}
+use Rattle.fields.specs.declared.Span.{Span}
 use Rattle.voicelength.specs.Length.{length_asked}
 use Rattle.answers.specs.Apart.{low-apart}
 use Rattle.muscalls.proofs.Places.{mus_low}
@@ -17,9 +18,9 @@ use Rattle.musparts.specs.Statements.{PartAnswers}
 use Rattle.musparts.proofs.Refusals.{line_low, head-low, length-low}
 use Rattle.musparts.proofs.Accepted.{load_narrow}
 
-few : (l : LinePlace) → length (line_numbers l) < 0x100000000
-few (lies s) = lit< tt
-few no_line = lit< tt
+few : (l : Option Span) → length (line_numbers l) < 0x100000000
+few (Some s) = lit< tt
+few None = lit< tt
 
 pub part_answers : (f : List ℕ) → PartAnswers f
 part_answers f = record {

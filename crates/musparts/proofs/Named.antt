@@ -16,8 +16,8 @@ use Rattle.fields.specs.declared.Span.{Span}
 use Rattle.fields.specs.Parts.{part_of}
 use Rattle.refusals.specs.Numbers.{Outcome}
 use Rattle.refusals.specs.Numbers.Outcome.{accepted, refused}
-use Rattle.refusals.specs.declared.Verdict.{Verdict}
-use Rattle.refusals.specs.declared.Verdict.TheVariants.{Passed, Failed}
+use Rattle.refusals.specs.Tests.{Verdict}
+use Rattle.std.specs.Prelude.{Result, Ok, Err}
 use Rattle.refusals.specs.Tests.{first_of, guarded, and_then}
 use Rattle.refusals.specs.Laws.{two_ways}
 use Rattle.container.specs.declared.Voices.{Voices}
@@ -28,12 +28,11 @@ use Rattle.container.specs.Laws.{VoiceFits, layout_none, layout_of_lem, voice1-f
 use Rattle.container.specs.ByNumber.{first-each}
 use Rattle.bodies.specs.Voice.{pairs}
 use Rattle.bodies.proofs.Stored.{length_pairs}
-use Rattle.structure.specs.declared.Finding.{Finding}
-use Rattle.structure.specs.declared.Finding.TheVariants.{Clear, At}
-use Rattle.structure.specs.Findings.{pairs_finding, structure_finding}
+use Rattle.refusals.specs.declared.Reason.{Reason}
+use Rattle.refusals.specs.Numbers.{number_of}
+use Rattle.structure.specs.Findings.{Found, At, pairs_finding, structure_finding}
 use Rattle.structure.specs.Laws.{pairs-within, structure-within}
-use Rattle.counts.specs.declared.Counted.{Counted}
-use Rattle.counts.specs.declared.Counted.TheVariants.{Within, Off}
+use Rattle.counts.specs.declared.Walk.{Walk}
 use Rattle.counts.specs.Limits.{count_outcome}
 use Rattle.mus.specs.Voices.{or_found, limited, voice_by}
 use Rattle.mus.specs.Song.{voice_in, song_in, song_by, mus_outcome}
@@ -50,14 +49,14 @@ abbrev Placed : {A : Type 0} → Span → Outcome A → Type 0
 Placed s (accepted a) = Unit
 Placed s (refused number place) = PairAt s place
 
-found-placed : {A : Type 0} (s : Span) (x : Finding) (later : Outcome A) → ((n i : ℕ) → x ≡ At n i → i < s.len / 2)
+found-placed : {A : Type 0} (s : Span) (x : Found) (later : Outcome A) → ((r : Reason) (i : ℕ) → x ≡ At r i → i < s.len / 2)
     → Placed s later → Placed s (or_found s.from x later)
-found-placed s Clear later h l = l
-found-placed s (At n i) later h l = record { pair = i; stored = h n i refl; stands = refl }
+found-placed s (Ok u) later h l = l
+found-placed s (Err y) later h l = record { pair = y.pair; stored = h y.reason y.pair refl; stands = refl }
 
-limited-placed : (s : Span) (len : ℕ) (c : Counted) → 0 < s.len / 2 → Placed s (limited s.from len c)
-limited-placed s len (Within events walked) h = tt
-limited-placed s len (Off n) h = record { pair = 0; stored = h; stands = omega arith }
+limited-placed : (s : Span) (len : ℕ) (c : Result Walk Reason) → 0 < s.len / 2 → Placed s (limited s.from len c)
+limited-placed s len (Ok w) h = tt
+limited-placed s len (Err r) h = record { pair = 0; stored = h; stands = omega arith }
 
 voice-placed : (f : List ℕ) (s : Span) → VoiceFits f s → Placed s (voice_in pairs f s)
 unfolding voice_by
@@ -74,9 +73,9 @@ unfolding container_outcome container_tests
 container-number f n p e = go (first_of (container_tests f)) refl e
   where
     go : (v : Verdict) → first_of (container_tests f) ≡ v → guarded v (accepted (layout_of f)) ≡ refused n p → n ≤ 26
-    go Passed q r = absurd (two_ways (sym r))
-    go (Failed m) q r =
-        let is : m ≡ n = cc in
+    go (Ok u) q r = absurd (two_ways (sym r))
+    go (Err m) q r =
+        let is : number_of m ≡ n = cc in
         subst (λ (k : ℕ). k ≤ 26) is
         (first-each (λ k. k ≤ 26) (container_tests f) (lit≤ tt, (lit≤ tt, (lit≤ tt, (lit≤ tt, (lit≤ tt, (lit≤ tt, tt)))))) m q)
 

@@ -14,18 +14,18 @@ use Rattle.container.specs.Laws.{text-whole}
 use Rattle.mus.specs.declared.Song.{Song}
 use Rattle.mus.specs.Song.{mus_outcome}
 use Rattle.mus.specs.Text.{song_line, line_asked}
-use Rattle.mus.specs.Text.LinePlace.{lies, no_line}
+use Rattle.std.specs.Prelude.{Option, Some, None as no_line}
 use Rattle.mus.specs.Acceptance.{song_of, then_given, accepted-clear}
 
 module _ (P : Span → Type 0) (x : Song) where
   abbrev EachLine : Type 0
   EachLine = P x.line1 × P x.line2 × P x.line3 × P x.line4 × P x.line5
 
-  one : (s t : Span) → lies t ≡ lies s → P t → P s
+  one : (s t : Span) → Some t ≡ Some s → P t → P s
   one s t e h = let same : t ≡ s = cc in subst P same h
 
   -- what holds of each line of a song holds of the line that a number names
-  each_line : EachLine → (n : ℕ) (s : Span) → song_line x n ≡ lies s → P s
+  each_line : EachLine → (n : ℕ) (s : Span) → song_line x n ≡ Some s → P s
   each_line h n s e =
       cases (eqb n 1) (λ a. one s x.line1 (rw a at e) h.0)
       (λ a. cases (eqb n 2) (λ b. one s x.line2 (rw (a, b) at e) h.1)
@@ -34,7 +34,7 @@ module _ (P : Span → Type 0) (x : Song) where
       (λ d. cases (eqb n 5) (λ g. one s x.line5 (rw (a, b, c, d, g) at e) h.4)
       (λ g. absurd (no_line_lem (rw (a, b, c, d, g) at e)))))))
     where
-      no_line_lem : no_line ≡ lies s → ⊥
+      no_line_lem : ◌≡◌ {A = Option Span} no_line (Some s) → ⊥
       no_line_lem q = let z : ◌≡◌ {A = ℕ} 0 1 = cc in omega arith
 
 abbrev Inside : List ℕ → Span → Type 0
@@ -54,10 +54,10 @@ lines-inside f none =
     )
 
 -- The line that is given out for a number, and the byte after it, lie in the file.
-pub line-inside : (f : List ℕ) (n : ℕ) (s : Span) → line_asked f n ≡ accepted (lies s) → s.from + s.len < length f
+pub line-inside : (f : List ℕ) (n : ℕ) (s : Span) → line_asked f n ≡ accepted (Some s) → s.from + s.len < length f
 unfolding line_asked
 line-inside f n s e =
-    let given = then_given (mus_outcome f) (λ s. accepted (song_line s n)) (lies s) e in
+    let given = then_given (mus_outcome f) (λ s. accepted (song_line s n)) (Some s) e in
     let c = accepted-clear f given.value given.was in
-    let is : song_line given.value n ≡ lies s = accepted-once given.gives in
+    let is : song_line given.value n ≡ Some s = accepted-once given.gives in
     each_line (Inside f) given.value (subst (EachLine (Inside f)) c.1 (lines-inside f c.0.container)) n s is

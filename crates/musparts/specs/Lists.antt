@@ -7,12 +7,11 @@
 use Rattle.std.specs.Prelude.{ℕ, ◌/◌, List, [], ◌∷◌}
 use Rattle.fields.specs.declared.Span.{Span}
 use Rattle.container.specs.declared.Voices.{Voices}
-use Rattle.mus.specs.Text.{LinePlace}
-use Rattle.mus.specs.Text.LinePlace.{lies, no_line}
+use Rattle.std.specs.Prelude.{Option, Some, None}
 
-abbrev pub line_numbers : LinePlace → List ℕ
-line_numbers (lies s) = s.from ∷ s.len ∷ []
-line_numbers no_line = []
+abbrev pub line_numbers : Option Span → List ℕ
+line_numbers (Some s) = s.from ∷ s.len ∷ []
+line_numbers None = []
 
 abbrev pub span_numbers : Span → List ℕ → List ℕ
 span_numbers s rest = s.from ∷ s.len / 2 ∷ rest

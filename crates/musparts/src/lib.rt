@@ -11,10 +11,6 @@ ghost use Rattle.voicelength.specs.Length.{length_asked};
 ghost use Rattle.answers.specs.Answers.{packed, list_after};
 ghost use Rattle.musparts.specs.Lists.{line_numbers, place_numbers, time_numbers};
 
-use container::Heading;
-use mus::{LineAnswer, Reading};
-use voicelength::LengthAnswer;
-
 mod places;
 
 // internal: the body of tt_mus_load.
@@ -22,8 +18,8 @@ pub fn load(file: &[u8]) -> u64
     ensures { result ≡ packed (λ s. s.load) (mus_outcome file.now) }
 {
     match mus::accept(file) {
-        Reading::Refused(x) => answers::refused(x),
-        Reading::Accepted(s) => s.load as u64,
+        Err(x) => answers::refused(x.reason.number(), x.place),
+        Ok(s) => s.load as u64,
     }
 }
 
@@ -33,13 +29,16 @@ pub fn line(file: &[u8], line: u32, out: &mut [u32]) -> u64
     ensures cells { out.new ≡ list_after line_numbers (line_asked file.now line) out.old }
 {
     match mus::text_line(file, line as u64) {
-        LineAnswer::Refused(x) => answers::refused(x),
-        LineAnswer::NoSuchLine => 0,
-        LineAnswer::At(s) => {
-            let numbers = places::line_numbers(s);
-            answers::fill(&numbers, out);
-            2
-        }
+        Err(x) => answers::refused(x.reason.number(), x.place),
+        // a match of its own: of `Ok(None)` and `Ok(Some(s))` the proof has no names for what is known
+        Ok(place) => match place {
+            None => 0,
+            Some(s) => {
+                let numbers = places::line_numbers(s);
+                answers::fill(&numbers, out);
+                2
+            }
+        },
     }
 }
 
@@ -49,8 +48,8 @@ pub fn voices(file: &[u8], out: &mut [u32]) -> u64
     ensures cells { out.new ≡ list_after place_numbers (head_outcome file.now) out.old }
 {
     match container::read_head(file) {
-        Heading::Refused(x) => answers::refused(x),
-        Heading::Fits(v) => {
+        Err(x) => answers::refused(x.reason.number(), x.place),
+        Ok(v) => {
             let numbers = places::place_numbers(v);
             answers::fill(&numbers, out);
             6
@@ -64,9 +63,9 @@ pub fn voice_length(file: &[u8], voice: u32, out: &mut [u64]) -> u64
     ensures cells { out.new ≡ list_after time_numbers (length_asked file.now voice) out.old }
 {
     match voicelength::length(file, voice) {
-        LengthAnswer::Refused(x) => answers::refused(x),
-        LengthAnswer::Ends(t) => {
-            places::put_time(t, out);
+        Err(x) => answers::refused(x.reason.number(), x.place),
+        Ok(t) => {
+            answers::fill(&[t], out);
             1
         }
     }

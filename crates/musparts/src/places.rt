@@ -1,8 +1,6 @@
-// Where a text line and the three voices lie, as lists of numbers; a voice's time in a list.
-ghost use Rattle.std.specs.Prelude.{◌≡◌};
-ghost use Rattle.fields.specs.Parts.{front};
-ghost use Rattle.mus.specs.Text.LinePlace.{lies};
-ghost use Rattle.musparts.specs.Lists.{line_numbers, place_numbers, time_numbers};
+// Where a text line and the three voices lie, as lists of numbers.
+ghost use Rattle.std.specs.Prelude.{◌≡◌, Some};
+ghost use Rattle.musparts.specs.Lists.{line_numbers, place_numbers};
 ghost use Rattle.musparts.specs.Bounds.{NarrowSpan, NarrowVoices};
 
 use container::Voices;
@@ -11,7 +9,7 @@ use fields::Span;
 // internal: a line's offset and length.
 pub fn line_numbers(s: Span) -> [u32; 2]
     requires { NarrowSpan s }
-    ensures { result ≡ line_numbers (lies s) }
+    ensures { result ≡ line_numbers (Some s) }
 {
     [s.from as u32, s.len as u32]
 }
@@ -29,13 +27,4 @@ pub fn place_numbers(v: Voices) -> [u32; 6]
         v.voice3.from as u32,
         (v.voice3.len / 2) as u32,
     ]
-}
-
-// internal: a time into the first cell of a list, if there is one.
-pub fn put_time(t: u64, out: &mut [u64])
-    ensures { out.new ≡ front (time_numbers t) out.old }
-{
-    if 0 < out.len() {
-        out[0] = t;
-    }
 }

@@ -2,89 +2,58 @@
 // tools/musvectors makes the files and says what each must give.
 #![tactic(auto)]
 
-use fields::Span;
-use files::Loaded;
-use mus::{LineAnswer, Reading, Song, Voice};
-use printing::{write, write_after, write_failure, write_refusal};
-use refusals::Refusal;
+use files::LoadError;
+use mus::{Song, Voice};
+use printing::write_failure;
 use std::io;
 use std::io::Write;
 
-fn show_voice(out: &mut impl Write, words: &[u8], v: Voice) -> io::Result<()> {
-    write_after(out, words, v.offset as u64)?;
-    write_after(out, b" ", v.length as u64)?;
-    write_after(out, b" ", v.events as u64)?;
-    write_after(out, b" ", v.walked as u64)?;
-    Ok(())
-}
-
-fn show_span(out: &mut impl Write, span: Span) -> io::Result<()> {
-    write_after(out, b" ", span.from as u64)?;
-    write_after(out, b" ", span.len as u64)?;
-    Ok(())
+fn show_voice(out: &mut impl Write, number: u32, v: Voice) -> io::Result<()> {
+    write!(
+        out,
+        " v{number} {} {} {} {}",
+        v.offset, v.length, v.events, v.walked
+    )
 }
 
 fn show_song(out: &mut impl Write, song: Song) -> io::Result<()> {
-    write_after(out, b" accepted load ", song.load as u64)?;
-    show_voice(out, b" v1 ", song.voice1)?;
-    show_voice(out, b" v2 ", song.voice2)?;
-    show_voice(out, b" v3 ", song.voice3)?;
-    write(out, b" lines")?;
-    show_span(out, song.line1)?;
-    show_span(out, song.line2)?;
-    show_span(out, song.line3)?;
-    show_span(out, song.line4)?;
-    show_span(out, song.line5)
-}
-
-fn show_refusal(out: &mut impl Write, x: Refusal) -> io::Result<()> {
-    write(out, b" refused ")?;
-    write_refusal(out, x)?;
-    Ok(())
-}
-
-fn show_reading(out: &mut impl Write, answer: Reading) -> io::Result<()> {
-    match answer {
-        Reading::Accepted(song) => show_song(out, song),
-        Reading::Refused(x) => show_refusal(out, x),
+    write!(out, " accepted load {}", song.load)?;
+    show_voice(out, 1, song.voice1)?;
+    show_voice(out, 2, song.voice2)?;
+    show_voice(out, 3, song.voice3)?;
+    write!(out, " lines")?;
+    for line in [song.line1, song.line2, song.line3, song.line4, song.line5] {
+        write!(out, " {} {}", line.from, line.len)?;
     }
+    Ok(())
 }
 
 // A text line in brackets, which hold nothing where there is no such line and where the file is refused.
 fn show_text(out: &mut impl Write, file: &[u8], number: u64) -> io::Result<()> {
-    write(out, b"[")?;
-    match mus::text_line(file, number) {
-        LineAnswer::At(span) => {
-            write(out, fields::span_part(file, span))?;
-        }
-        LineAnswer::NoSuchLine => {}
-        LineAnswer::Refused(_) => {}
+    write!(out, "[")?;
+    if let Ok(Some(line)) = mus::text_line(file, number) {
+        out.write_all(fields::span_part(file, line))?;
     }
-    write(out, b"]")?;
-    Ok(())
+    write!(out, "]")
 }
 
 // What numbers 0 to 6, one that is 1 in 32 bits, and the type's greatest give: only 1 to 5 are lines.
 fn show_texts(out: &mut impl Write, file: &[u8]) -> io::Result<()> {
-    write(out, b" text ")?;
-    show_text(out, file, 0)?;
-    show_text(out, file, 1)?;
-    show_text(out, file, 2)?;
-    show_text(out, file, 3)?;
-    show_text(out, file, 4)?;
-    show_text(out, file, 5)?;
-    show_text(out, file, 6)?;
-    show_text(out, file, 4294967297)?;
-    show_text(out, file, u64::MAX)
+    write!(out, " text ")?;
+    for number in [0, 1, 2, 3, 4, 5, 6, 4294967297, u64::MAX] {
+        show_text(out, file, number)?;
+    }
+    Ok(())
 }
 
 fn report(out: &mut impl Write, name: &[u8], file: &[u8]) -> io::Result<()> {
-    let answer = mus::accept(file);
-    write(out, name)?;
-    show_reading(out, answer)?;
+    out.write_all(name)?;
+    match mus::accept(file) {
+        Ok(song) => show_song(out, song)?,
+        Err(refusal) => write!(out, " refused {refusal}")?,
+    }
     show_texts(out, file)?;
-    write(out, b"\n")?;
-    Ok(())
+    writeln!(out)
 }
 
 // Reports the file that argument i names. Answers whether there is such an argument.
@@ -95,9 +64,10 @@ fn report_argument(rt: &HostRuntime, i: usize) -> io::Result<bool> {
         return Ok(false);
     };
     match files::read_file(rt, &name[..n], &mut file) {
-        Loaded::Bytes(len) => report(&mut rt.stdout(), &name[..n], fields::part(&file, 0, len))?,
-        Loaded::NotOpened(error) => write_failure(&mut rt.stderr(), &name[..n], error)?,
-        Loaded::NotRead(error) => write_failure(&mut rt.stderr(), &name[..n], error)?,
+        Ok(len) => report(&mut rt.stdout(), &name[..n], fields::part(&file, 0, len))?,
+        Err(LoadError::NotOpened(error) | LoadError::NotRead(error)) => {
+            write_failure(&mut rt.stderr(), &name[..n], error)?
+        }
     }
     Ok(true)
 }

@@ -2,7 +2,7 @@
 -- pitch_reads              the second byte of a pitch in the tables reads as it
 -- written-note_reads       what is written reads back, from two bytes of which the first has low bits 00
 -- read-note_writes         what is read is written as the writer does
-use Rattle.std.specs.Prelude.{ℕ, ◌+◌, ◌*◌, ◌-◌, ◌/◌, ◌%◌, ◌≤◌, ◌<◌, ◌≡◌, refl, Bool, true, false, not, ◌&&◌, ◌||◌, cond, T, eqb, ltb}
+use Rattle.std.specs.Prelude.{ℕ, ◌+◌, ◌*◌, ◌-◌, ◌/◌, ◌%◌, ◌≤◌, ◌<◌, ◌≡◌, refl, Bool, true, false, not, ◌&&◌, ◌||◌, cond, T, eqb, ltb, Option, Some, None}
 use Rattle.std.proofs.Common.{ap, subst, arith, eqb→eq, ltb→lt, lit≤, ne_eqb}
 use Rattle.std.proofs.lemmas.Bool.{not-true}
 use Rattle.logic.specs.Truth.{both_left}
@@ -18,12 +18,10 @@ use Rattle.meaning.specs.declared.Pitch.{Pitch}
 use Rattle.meaning.specs.declared.Tone.{Tone}
 use Rattle.meaning.specs.declared.Tone.TheVariants.{Rest, Sounds}
 use Rattle.meaning.specs.declared.Note.{Note}
-use Rattle.meaning.specs.Answers.{Bytes}
+use Rattle.meaning.specs.declared.Bytes.{Bytes}
 use Rattle.logic.specs.Every.{every, every_at, all_left, all_right, implied}
 use Rattle.meaning.specs.Pitches.{has_accidental, in_tables, double_is_sharp}
 use Rattle.meaning.specs.Laws.{octave_low}
-use Rattle.note.specs.declared.Byte.{Byte}
-use Rattle.note.specs.declared.Byte.TheVariants.{Is, None}
 use Rattle.note.specs.Reading.{note_of, tone_of, letter_of, accidental_of}
 use Rattle.note.specs.Writing.{first_byte, letter_number, accidental_bits, tone_byte, two_bytes, note_spelling}
 use Rattle.note.specs.Preferred.{preferred_first, preferred_second}
@@ -31,19 +29,19 @@ use Rattle.refusals.specs.Numbers.Outcome.{accepted}
 use Rattle.note.specs.Laws.{accidental_low, letter_number-low, pitch_byte}
 
 -- that there is a byte, and that it is this number
-abbrev is_byte : Byte → ℕ → Bool
-is_byte (Is n) k = eqb n k
+abbrev is_byte : Option ℕ → ℕ → Bool
+is_byte (Some n) k = eqb n k
 is_byte None k = false
 
-byte-is : (x : Byte) (k : ℕ) → T (is_byte x k) → x ≡ Is k
-byte-is (Is n) k t = ap Is (eqb→eq n k t)
+byte-is : (x : Option ℕ) (k : ℕ) → T (is_byte x k) → x ≡ Some k
+byte-is (Some n) k t = ap Some (eqb→eq n k t)
 byte-is None k t = absurd t
 
 -- the byte that is written for what a first byte means, and for what a second means
-abbrev first_again : ℕ → Byte
+abbrev first_again : ℕ → Option ℕ
 first_again a = first_byte (note_of a 0).duration (note_of a 0).shape (note_of a 0).tied
 
-abbrev second_again : ℕ → Byte
+abbrev second_again : ℕ → Option ℕ
 second_again b = tone_byte (tone_of b)
 
 -- what is computed at each byte: the writer's byte for it is the preferred one, for a first byte with low
@@ -60,12 +58,12 @@ firsts = tt
 seconds : T (every second_test 256)
 seconds = tt
 
-first-again : (a : ℕ) → a < 256 → a % 4 ≡ 0 → first_again a ≡ Is (preferred_first a)
+first-again : (a : ℕ) → a < 256 → a % 4 ≡ 0 → first_again a ≡ Some (preferred_first a)
 first-again a low e =
     byte-is (first_again a) (preferred_first a)
     (implied (eqb (a % 4) 0) (is_byte (first_again a) (preferred_first a)) (every_at first_test 256 firsts a low) (rw (e)))
 
-second-again : (b : ℕ) → b < 256 → second_again b ≡ Is (preferred_second b)
+second-again : (b : ℕ) → b < 256 → second_again b ≡ Some (preferred_second b)
 second-again b low =
     byte-is (second_again b) (preferred_second b) (every_at second_test 256 seconds b low)
 
@@ -75,9 +73,9 @@ pub read-note_writes : (a b : ℕ) → a < 256 → b < 256 → a % 4 ≡ 0
 read-note_writes a b lowA lowB e = λ i. two_bytes (first-again a lowA e i) (second-again b lowB i)
 
 -- that a first byte, if there is one, reads as the note it was made of
-abbrev FirstReads : Duration → Shape → Bool → Byte → Type 0
+abbrev FirstReads : Duration → Shape → Bool → Option ℕ → Type 0
 FirstReads d s t None = Unit
-FirstReads d s t (Is a) = T (eqb (a % 4) 0 && ltb a 256) × (note_of a 0 ≡ record { duration = d; shape = s; tied = t; tone = Rest })
+FirstReads d s t (Some a) = T (eqb (a % 4) 0 && ltb a 256) × (note_of a 0 ≡ record { duration = d; shape = s; tied = t; tone = Rest })
 
 -- one fact for each shape, untied and tied, so for all
 each : (P : Shape → Bool → Type 0) → P Plain false × P Plain true → P Dotted false × P Dotted true
@@ -159,20 +157,20 @@ pitch_reads p e =
     let has = accidental_back p.letter p.accidental (both_left (has_accidental p.letter p.accidental) _ e) in
     (rw (number, top, middle, sounds, letter_back p.letter, has), omega arith)
 
-tone-taken : (t : Bool) (n b : ℕ) → cond t (Is n) None ≡ Is b → (t ≡ true) × (n ≡ b)
+tone-taken : (t : Bool) (n b : ℕ) → cond t (Some n) None ≡ Some b → (t ≡ true) × (n ≡ b)
 tone-taken true n b e = (refl, cc)
 tone-taken false n b e = absurd (let z : ◌≡◌ {A = ℕ} 0 1 = cc in omega arith)
 
-second_reads : (t : Tone) (b : ℕ) → tone_byte t ≡ Is b → (tone_of b ≡ t) × (b < 256)
+second_reads : (t : Tone) (b : ℕ) → tone_byte t ≡ Some b → (tone_of b ≡ t) × (b < 256)
 second_reads Rest b e = let is : 0 ≡ b = cc in rw (← is) (refl, omega arith)
 second_reads (Sounds p) b e = let took = tone-taken (in_tables p) (pitch_byte p) b e in rw (← took.1) (pitch_reads p took.0)
 
-both-taken : (x y : Byte) (a b : ℕ) → two_bytes x y ≡ accepted (record { first = a; second = b }) → (x ≡ Is a) × (y ≡ Is b)
+both-taken : (x y : Option ℕ) (a b : ℕ) → two_bytes x y ≡ accepted (record { first = a; second = b }) → (x ≡ Some a) × (y ≡ Some b)
 both-taken None y a b e = absurd (let z : ◌≡◌ {A = ℕ} 0 1 = cc in omega arith)
-both-taken (Is p) None a b e = absurd (let z : ◌≡◌ {A = ℕ} 0 1 = cc in omega arith)
-both-taken (Is p) (Is q) a b e =
+both-taken (Some p) None a b e = absurd (let z : ◌≡◌ {A = ℕ} 0 1 = cc in omega arith)
+both-taken (Some p) (Some q) a b e =
     let same : ◌≡◌ {A = Bytes} (record { first = p; second = q }) (record { first = a; second = b }) = cc in
-    (ap (λ r. Is r.first) same, ap (λ r. Is r.second) same)
+    (ap (λ r. Some r.first) same, ap (λ r. Some r.second) same)
 
 -- Two bytes that a note is written as are below 256, the first has low bits 00, and they read as that note.
 pub written-note_reads : (n : Note) (a b : ℕ) → note_spelling n ≡ accepted (record { first = a; second = b })

@@ -3,7 +3,7 @@
 -- Low, length-low          an untied note's first byte is at most 188, so the tie's 64 fits
 -- pitch_byte               the second byte of a pitch in the tables
 -- That bytes read back as what they were written from, and the other way round, stands in proofs/Back.antt.
-use Rattle.std.specs.Prelude.{ℕ, ◌+◌, ◌*◌, ◌-◌, ◌≤◌}
+use Rattle.std.specs.Prelude.{ℕ, ◌+◌, ◌*◌, ◌-◌, ◌≤◌, Option, Some, None}
 use Rattle.std.proofs.Common.{arith, lit≤}
 use Rattle.meaning.specs.declared.Duration.{Duration}
 use Rattle.meaning.specs.declared.Duration.TheVariants.{Whole, Half, Quarter, Eighth, Sixteenth, ThirtySecond, SixtyFourth, UtilityDuration, UtilityVoice, AbsolutePitch}
@@ -14,8 +14,6 @@ use Rattle.meaning.specs.declared.Letter.TheVariants.{C, D, E, F, G, A, B}
 use Rattle.meaning.specs.declared.Accidental.{Accidental}
 use Rattle.meaning.specs.declared.Accidental.TheVariants.{Flat, Natural, Sharp, DoubleSharp, DoubleFlat}
 use Rattle.meaning.specs.declared.Pitch.{Pitch}
-use Rattle.note.specs.declared.Byte.{Byte}
-use Rattle.note.specs.declared.Byte.TheVariants.{Is, None}
 use Rattle.note.specs.Writing.{shape_bits, plain_only, plain_or_triplet, length_byte, letter_number, accidental_bits}
 
 -- The bits of a shape are at most 160.
@@ -44,11 +42,11 @@ letter_number-low A = lit≤ tt
 letter_number-low B = lit≤ tt
 
 -- a byte, if there is one, of at most 188
-abbrev pub Low : Byte → Type 0
+abbrev pub Low : Option ℕ → Type 0
 Low None = Unit
-Low (Is n) = n ≤ 188
+Low (Some n) = n ≤ 188
 
-shaped-low : (n : ℕ) (s : Shape) → n ≤ 28 → Low (Is (n + shape_bits s))
+shaped-low : (n : ℕ) (s : Shape) → n ≤ 28 → Low (Some (n + shape_bits s))
 shaped-low n s h = omega (arith, shape-low s)
 
 plain-only-low : (n : ℕ) (s : Shape) → n ≤ 188 → Low (plain_only n s)

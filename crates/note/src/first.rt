@@ -3,7 +3,6 @@ ghost use Rattle.std.specs.Prelude.{◌≡◌};
 ghost use Rattle.note.specs.Reading.{length_in_byte, shape_of, utility_of, triplet_or_plain};
 ghost use Rattle.note.specs.Writing.{shape_bits, plain_only, plain_or_triplet, length_byte, first_byte};
 
-use crate::Byte;
 use meaning::{Duration, Shape};
 
 // How long a note is: its duration kind, and plain, dotted, double dotted or triplet.
@@ -90,6 +89,7 @@ pub fn length_of(first: u8) -> Length
     }
 }
 
+// The format's bits stand here beside shape_of, and not in meaning: From would be no plainer.
 fn shape_bits(shape: Shape) -> u8
     ensures { result ≡ shape_bits shape }
 {
@@ -101,40 +101,37 @@ fn shape_bits(shape: Shape) -> u8
     }
 }
 
-fn plain_only(byte: u8, shape: Shape) -> Byte
+fn plain_only(byte: u8, shape: Shape) -> Option<u8>
     ensures { result ≡ plain_only byte shape }
 {
     match shape {
-        Shape::Plain => Byte::Is(byte),
-        Shape::Dotted => Byte::None,
-        Shape::DoubleDotted => Byte::None,
-        Shape::Triplet => Byte::None,
+        Shape::Plain => Some(byte),
+        Shape::Dotted | Shape::DoubleDotted | Shape::Triplet => None,
     }
 }
 
-fn plain_or_triplet(plain: u8, triplet: u8, shape: Shape) -> Byte
+fn plain_or_triplet(plain: u8, triplet: u8, shape: Shape) -> Option<u8>
     ensures { result ≡ plain_or_triplet plain triplet shape }
 {
     match shape {
-        Shape::Plain => Byte::Is(plain),
-        Shape::Dotted => Byte::None,
-        Shape::DoubleDotted => Byte::None,
-        Shape::Triplet => Byte::Is(triplet),
+        Shape::Plain => Some(plain),
+        Shape::Triplet => Some(triplet),
+        Shape::Dotted | Shape::DoubleDotted => None,
     }
 }
 
 // The first byte of an untied note.
-fn length_byte(duration: Duration, shape: Shape) -> Byte
+fn length_byte(duration: Duration, shape: Shape) -> Option<u8>
     ensures { result ≡ length_byte duration shape }
 {
     let bits = shape_bits(shape);
     match duration {
-        Duration::Whole => Byte::Is(0x08 + bits),
-        Duration::Half => Byte::Is(0x0C + bits),
-        Duration::Quarter => Byte::Is(0x10 + bits),
-        Duration::Eighth => Byte::Is(0x14 + bits),
-        Duration::Sixteenth => Byte::Is(0x18 + bits),
-        Duration::ThirtySecond => Byte::Is(0x1C + bits),
+        Duration::Whole => Some(0x08 + bits),
+        Duration::Half => Some(0x0C + bits),
+        Duration::Quarter => Some(0x10 + bits),
+        Duration::Eighth => Some(0x14 + bits),
+        Duration::Sixteenth => Some(0x18 + bits),
+        Duration::ThirtySecond => Some(0x1C + bits),
         Duration::SixtyFourth => plain_or_triplet(0x20, 0xA0, shape),
         Duration::UtilityDuration => plain_or_triplet(0x04, 0x84, shape),
         Duration::UtilityVoice => plain_only(0x24, shape),
@@ -144,18 +141,12 @@ fn length_byte(duration: Duration, shape: Shape) -> Byte
 
 // The first byte of a note: an untied note's, with 64 added for the tie, which absolute pitch (0) cannot
 // have.
-pub fn first_byte(duration: Duration, shape: Shape, tied: bool) -> Byte
+pub fn first_byte(duration: Duration, shape: Shape, tied: bool) -> Option<u8>
     ensures { result ≡ first_byte duration shape tied }
 {
-    let untied = length_byte(duration, shape);
-    match untied {
-        Byte::None => Byte::None,
-        Byte::Is(n) => {
-            if tied {
-                if n == 0 { Byte::None } else { Byte::Is(n + 64) }
-            } else {
-                Byte::Is(n)
-            }
-        }
+    let untied = length_byte(duration, shape)?;
+    if !tied {
+        return Some(untied);
     }
+    if untied == 0 { None } else { Some(untied + 64) }
 }

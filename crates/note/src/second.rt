@@ -3,9 +3,9 @@ ghost use Rattle.std.specs.Prelude.{◌≡◌};
 ghost use Rattle.note.specs.Reading.{letter_of, accidental_of, double_of, tone_of};
 ghost use Rattle.note.specs.Writing.{letter_number, accidental_bits, tone_byte};
 
-use crate::Byte;
 use meaning::{Accidental, Letter, Pitch, Tone};
 
+// The format's numbers, and how letter_number goes back.
 fn letter_of(number: u8) -> Letter
     ensures { result ≡ letter_of number }
 {
@@ -23,14 +23,10 @@ fn letter_of(number: u8) -> Letter
 fn double_of(letter: Letter) -> Accidental
     ensures { result ≡ double_of letter }
 {
-    match letter {
-        Letter::C => Accidental::DoubleSharp,
-        Letter::D => Accidental::DoubleSharp,
-        Letter::E => Accidental::DoubleFlat,
-        Letter::F => Accidental::DoubleSharp,
-        Letter::G => Accidental::DoubleSharp,
-        Letter::A => Accidental::DoubleFlat,
-        Letter::B => Accidental::DoubleFlat,
+    if meaning::double_is_sharp(letter) {
+        Accidental::DoubleSharp
+    } else {
+        Accidental::DoubleFlat
     }
 }
 
@@ -62,6 +58,7 @@ pub fn tone_of(second: u8) -> Tone
     })
 }
 
+// The format's numbers stand here beside letter_of, and not in meaning: From would be no plainer.
 fn letter_number(letter: Letter) -> u8
     ensures { result ≡ letter_number letter }
 {
@@ -76,6 +73,7 @@ fn letter_number(letter: Letter) -> u8
     }
 }
 
+// The format's bits, as letter_number.
 fn accidental_bits(accidental: Accidental) -> u8
     ensures { result ≡ accidental_bits accidental }
 {
@@ -83,24 +81,25 @@ fn accidental_bits(accidental: Accidental) -> u8
         Accidental::Flat => 0xC0,
         Accidental::Natural => 0x80,
         Accidental::Sharp => 0x40,
-        Accidental::DoubleSharp => 0,
-        Accidental::DoubleFlat => 0,
+        Accidental::DoubleSharp | Accidental::DoubleFlat => 0,
     }
 }
 
-pub fn tone_byte(tone: Tone) -> Byte
+pub fn tone_byte(tone: Tone) -> Option<u8>
     ensures { result ≡ tone_byte tone }
 {
     match tone {
-        Tone::Rest => Byte::Is(0),
+        Tone::Rest => Some(0),
         Tone::Sounds(pitch) => {
             if meaning::in_tables(pitch) {
-                let letter = pitch.letter;
-                let accidental = pitch.accidental;
                 let octave = pitch.octave as u8;
-                Byte::Is(accidental_bits(accidental) + 8 * (7 - octave) + letter_number(letter))
+                Some(
+                    accidental_bits(pitch.accidental)
+                        + 8 * (7 - octave)
+                        + letter_number(pitch.letter),
+                )
             } else {
-                Byte::None
+                None
             }
         }
     }

@@ -7,7 +7,7 @@
 -- preferred_worked   worked out by hand: TPS B1 is written 0E; RTP 52, an octave up and one half-step down,
 --                    B3
 use Rattle.std.specs.Prelude.{ℕ, ◌+◌, ◌*◌, ◌-◌, ◌/◌, ◌%◌, ◌≡◌, refl, ◌&&◌, cond, eqb, ltb}
-use Rattle.meaning.specs.Answers.{Bytes}
+use Rattle.meaning.specs.declared.Bytes.{Bytes}
 use Rattle.note.specs.Preferred.{preferred_first, preferred_second}
 
 abbrev pub preferred_tps : ℕ → ℕ

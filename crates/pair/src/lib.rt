@@ -2,17 +2,18 @@
 #![tactic(auto)]
 
 ghost use Rattle.std.specs.Prelude.{◌≡◌};
-ghost use Rattle.meaning.specs.Answers.{outcome_of_meaning, outcome_of_bytes};
+ghost use Rattle.refusals.specs.Numbers.{outcome_of};
 ghost use Rattle.pair.specs.Pairs.{meaning_of, spelling_of};
 
-use meaning::{Meaning, Reading, Spelling};
+use meaning::{Bytes, Meaning};
+use refusals::Refusal;
 
 // Reads a pair: what its two bytes mean, or 27 or 28.
-pub fn read(first: u8, second: u8) -> Reading
-    ensures { outcome_of_meaning result ≡ meaning_of first second }
+pub fn read(first: u8, second: u8) -> Result<Meaning, Refusal>
+    ensures { outcome_of result ≡ meaning_of first second }
 {
     if first % 4 == 0 {
-        Reading::Means(Meaning::Note(note::read_note(first, second)))
+        Ok(Meaning::Note(note::read_note(first, second)))
     } else {
         command::read_command(first, second)
     }
@@ -20,8 +21,8 @@ pub fn read(first: u8, second: u8) -> Reading
 
 // Writes a meaning: its two bytes in the writer's spelling, or 43 where no pair has it. One line a case, in
 // source 004's order.
-pub fn write(meaning: Meaning) -> Spelling
-    ensures { outcome_of_bytes result ≡ spelling_of meaning }
+pub fn write(meaning: Meaning) -> Result<Bytes, Refusal>
+    ensures { outcome_of result ≡ spelling_of meaning }
 {
     match meaning {
         Meaning::Note(note) => note::write_note(note),
@@ -45,9 +46,9 @@ pub fn write(meaning: Meaning) -> Spelling
         Meaning::Res(v) => spelling::counted(v, 15, 0x0A, 16),
         Meaning::ThreeOff(y) => spelling::only_yes(y, 0x5B),
         Meaning::Vol(v) => spelling::counted(v, 15, 0x0E, 16),
-        Meaning::Tal => Spelling::Bytes(1, 0x0F),
-        Meaning::End => Spelling::Bytes(1, 0x2F),
-        Meaning::Hlt => Spelling::Bytes(1, 0x4F),
+        Meaning::Tal => Ok(Bytes::new(1, 0x0F)),
+        Meaning::End => Ok(Bytes::new(1, 0x2F)),
+        Meaning::Hlt => Ok(Bytes::new(1, 0x4F)),
         Meaning::Src(v) => spelling::counted(v, 2, 0x1F, 32),
         Meaning::Dst(v) => spelling::destination(v),
         Meaning::Pw(v) => spelling::joined(v, 4095, 0x02, 16),

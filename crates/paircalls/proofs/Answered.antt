@@ -1,15 +1,14 @@
 -- What is written for a number, from the laws of pairs and of codes.
 -- PairOf, Answered, answered   a pair of its meaning, or 43 at place 0
 -- code-written                 the code of a pair's meaning is written as the pair that document 01 names
--- undecoded-fits, unwritten-fits   the place of a refusal is below 2^32
--- onward                       what was decoded, then written
+-- written-fits                 the place of a refusal is below 2^32
 use Prim.Native.Nat.{ℕ, ◌<◌}
-use mathlib.Core.Path.{◌≡◌, refl, sym, ◌∙◌, ap}
+use mathlib.Core.Path.{◌≡◌, refl, sym, ◌∙◌, ap, subst}
 use Rattle.refusals.specs.Numbers.{Outcome}
 use Rattle.refusals.specs.Numbers.Outcome.{accepted, refused}
 use Rattle.refusals.specs.Tests.{and_then}
 use Rattle.meaning.specs.declared.Meaning.{Meaning}
-use Rattle.meaning.specs.Answers.{Bytes}
+use Rattle.meaning.specs.declared.Bytes.{Bytes}
 use Rattle.pair.specs.Pairs.{spelling_of}
 use Rattle.pair.specs.Preferred.{preferred}
 use Rattle.pairlaws.specs.Statements.{Means}
@@ -48,11 +47,5 @@ code-written m a b means =
     let coded = coding_and_decoding.written-coded m record { first = a; second = b; means = means } in
     ap (λ (o : Outcome Meaning). and_then o (λ k. spelling_of k)) coded.back ∙ reading_and_writing.read-written m a b means
 
-pub undecoded-fits : (n : ℕ) {number place : ℕ} → refused number place ≡ decoded n → place < 0x100000000
-undecoded-fits n e = unplaced-fits (coding_and_decoding.undecoded n _ _ (sym e)).1
-
-pub unwritten-fits : (m : Meaning) {number place : ℕ} → refused number place ≡ spelling_of m → place < 0x100000000
-unwritten-fits m e = unplaced-fits (reading_and_writing.unwritten m _ _ (sym e)).1
-
-pub onward : {o p : Outcome Meaning} → o ≡ p → and_then o (λ m. spelling_of m) ≡ and_then p (λ m. spelling_of m)
-onward e = ap (λ (o : Outcome Meaning). and_then o (λ m. spelling_of m)) e
+pub written-fits : (n : ℕ) {number place : ℕ} → refused number place ≡ written n → place < 0x100000000
+written-fits n e = unplaced-fits (subst (Answered n) (sym e) (answered n)).1

@@ -1,11 +1,11 @@
 -- Laws of half-steps, for the functions and for the laws of the calls.
--- step-refused            a pitch's half-step is refused with 43 at place 0 alone
 -- number-low, tables_number   the number of a half-step: at most 97, and the half-step + 1
 -- Stepped, stepped        a code's outcome: a number of at most 97, or 43 at place 0
+-- stepped-fits            the place of a refusal is below 2^32
 -- half_step-apart, half_step_refusals, tone-stepped, stepped-tone, read_step   the laws of the call
 use Prim.Native.Nat.{ℕ, ◌%◌, ◌≤◌, ◌<◌}
-use mathlib.Core.Path.{◌≡◌, refl, sym, ◌∙◌, ap}
-use mathlib.Core.Bool.{Bool, true, false, cond}
+use mathlib.Core.Path.{◌≡◌, refl, sym, ◌∙◌, ap, subst}
+use mathlib.Core.Bool.{true}
 use mathlib.Core.Logic.{◌⊎◌, inl, inr}
 use native.Mathlib.Omega.{arith}
 use lib.Dec.{T, eqb, leb→le, lit≤}
@@ -17,14 +17,13 @@ use Rattle.logic.specs.Every.{all_left, all_right}
 use Rattle.refusals.specs.Numbers.{Outcome}
 use Rattle.refusals.specs.Numbers.Outcome.{accepted, refused}
 use Rattle.refusals.specs.Tests.{and_then}
-use Rattle.refusals.specs.Laws.{two_ways}
 use Rattle.meaning.specs.declared.Pitch.{Pitch}
 use Rattle.meaning.specs.declared.Tone.{Tone}
 use Rattle.meaning.specs.declared.Tone.TheVariants.{Rest, Sounds}
 use Rattle.meaning.specs.declared.Note as declared
 use Rattle.meaning.specs.declared.Meaning.TheVariants.{Note}
-use Rattle.meaning.specs.Answers.{Bytes}
-use Rattle.meaning.specs.Pitches.{in_tables, half_step, step_outcome}
+use Rattle.meaning.specs.declared.Bytes.{Bytes}
+use Rattle.meaning.specs.Pitches.{in_tables, half_step}
 use Rattle.note.specs.Reading.{tone_of, note_of}
 use Rattle.note.proofs.Back.{written-note_reads}
 use Rattle.pair.specs.Pairs.{meaning_of}
@@ -33,18 +32,11 @@ use Rattle.pairlaws.proofs.HalfSteps.{byte_tables, step_range}
 use Rattle.pairlaws.proofs.Laws.{reading_and_writing}
 use Rattle.codes.specs.Coding.{code_of}
 use Rattle.answers.specs.Answers.{packed}
-use Rattle.answers.specs.Apart.{Apart, upper_half}
+use Rattle.answers.specs.Apart.{Apart, upper_half, unplaced-fits}
 use Rattle.paircalls.specs.Written.{written}
 use Rattle.paircalls.specs.HalfSteps.{step_number, step_of_tone, step_of_bytes, half_step_outcome, number_step}
 use Rattle.paircalls.specs.Statements.{read_answer, step_answer, refused_with, CodeOfTone}
 use Rattle.paircalls.proofs.Answered.{PairOf, Answered, answered, code-written}
-
-pub step-refused : (p : Pitch) (number place : ℕ) → refused number place ≡ step_outcome p → (number ≡ 43) × (place ≡ 0)
-step-refused p number place e = go (in_tables p) e
-  where
-    go : (b : Bool) → refused number place ≡ cond b (accepted (half_step p)) (refused 43 0) → (number ≡ 43) × (place ≡ 0)
-    go true e = absurd (two_ways e)
-    go false e = (cc, cc)
 
 number-low : (z : ℤ) → T (le_z z (pos 96)) → step_number z ≤ 97
 number-low (pos n) t = omega (arith, leb→le n 96 t)
@@ -75,6 +67,9 @@ stepped n = go (written n) (answered n)
     go (accepted y) p =
         cases (eqb (y.first % 4) 0) (λ e. rw e (tone-answered (tone_of y.second))) (λ e. rw e (refl, refl))
     go (refused number place) is = is
+
+pub stepped-fits : (n : ℕ) {number place : ℕ} → refused number place ≡ half_step_outcome n → place < 0x100000000
+stepped-fits n e = unplaced-fits (subst Stepped (sym e) (stepped n)).1
 
 pub half_step-apart : (n : ℕ) → Apart (λ v. v) (half_step_outcome n)
 half_step-apart n = go (half_step_outcome n) (stepped n)

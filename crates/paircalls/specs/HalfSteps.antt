@@ -9,12 +9,13 @@
 use Rattle.std.specs.Prelude.{ℕ, zero, suc, ◌+◌, ◌%◌, ◌≡◌, refl, cond, T, eqb, ℤ, pos, negsuc, ◌+ℤ◌}
 use Rattle.std.proofs.Common.{arith, leb→le}
 use Rattle.std.specs.Int.Signed.{le_z}
-use Rattle.refusals.specs.Numbers.{Outcome, number_of, no_pair}
+use Rattle.refusals.specs.declared.Reason.TheVariants.{NoPair}
+use Rattle.refusals.specs.Numbers.{Outcome, number_of}
 use Rattle.refusals.specs.Numbers.Outcome.{accepted, refused}
 use Rattle.refusals.specs.Tests.{and_then}
 use Rattle.meaning.specs.declared.Tone.{Tone}
 use Rattle.meaning.specs.declared.Tone.TheVariants.{Rest, Sounds}
-use Rattle.meaning.specs.Answers.{Bytes}
+use Rattle.meaning.specs.declared.Bytes.{Bytes}
 use Rattle.meaning.specs.Pitches.{step_outcome}
 use Rattle.note.specs.Reading.{tone_of}
 use Rattle.decoding.specs.Decoding.{decoded}
@@ -25,7 +26,7 @@ step_number (pos n) = n + 1
 step_number (negsuc n) = 0
 
 abbrev pub no_step : Outcome ℕ
-no_step = refused (number_of no_pair) 0
+no_step = refused (number_of NoPair) 0
 
 abbrev pub step_of_tone : Tone → Outcome ℕ
 step_of_tone Rest = no_step

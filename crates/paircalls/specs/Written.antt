@@ -4,7 +4,7 @@
 use Rattle.std.specs.Prelude.{ℕ, ◌+◌, ◌*◌}
 use Rattle.refusals.specs.Numbers.{Outcome}
 use Rattle.refusals.specs.Tests.{and_then}
-use Rattle.meaning.specs.Answers.{Bytes}
+use Rattle.meaning.specs.declared.Bytes.{Bytes}
 use Rattle.decoding.specs.Decoding.{decoded}
 use Rattle.pair.specs.Pairs.{spelling_of}
 

@@ -3,13 +3,15 @@
 #![tactic(auto)]
 
 ghost use Rattle.std.specs.Prelude.{◌≡◌};
+ghost use Rattle.refusals.specs.Numbers.{outcome_of};
 ghost use Rattle.pair.specs.Pairs.{meaning_of};
 ghost use Rattle.codes.specs.Coding.{code_of};
 ghost use Rattle.answers.specs.Answers.{packed};
 ghost use Rattle.paircalls.specs.Written.{bytes_number, written};
 ghost use Rattle.paircalls.specs.HalfSteps.{half_step_outcome};
 
-use meaning::{Reading, Spelling};
+use meaning::Bytes;
+use refusals::Refusal;
 
 mod steps;
 
@@ -23,33 +25,43 @@ pub fn read(first: u8, second: u8) -> u64
         return codes::notes::note_code(note::read_note(first, second));
     }
     match command::read_command(first, second) {
-        Reading::Refused(x) => answers::refused(x),
-        Reading::Means(m) => codes::code_of(m),
+        Ok(meaning) => codes::code_of(meaning),
+        Err(x) => answers::refused(x.reason.number(), x.place),
     }
+}
+
+// The bytes of a code's pair, or 43.
+#[tactic(auto, unfolding(crate::specs::Written::written))]
+fn written(code: u32) -> Result<Bytes, Refusal>
+    ensures { outcome_of result ≡ written code }
+{
+    pair::write(decoding::meaning_of(code)?)
 }
 
 // internal: the body of tt_pair_write.
 pub fn write(code: u32) -> u64
     ensures { result ≡ packed bytes_number (written code) }
 {
-    match decoding::meaning_of(code) {
-        Reading::Refused(x) => answers::refused(x),
-        Reading::Means(m) => match pair::write(m) {
-            Spelling::Refused(x) => answers::refused(x),
-            Spelling::Bytes(first, second) => first as u64 * 256 + second as u64,
-        },
+    match written(code) {
+        Ok(bytes) => u16::from_be_bytes([bytes.first, bytes.second]) as u64,
+        Err(x) => answers::refused(x.reason.number(), x.place),
     }
+}
+
+// The number of the half-step of a code's note, or 43.
+#[tactic(auto, unfolding(crate::specs::HalfSteps::half_step_outcome))]
+fn stepped(code: u32) -> Result<u64, Refusal>
+    ensures { outcome_of result ≡ half_step_outcome code }
+{
+    steps::pair_step(written(code)?)
 }
 
 // internal: the body of tt_half_step.
 pub fn half_step(code: u32) -> u64
     ensures { result ≡ packed (λ n. n) (half_step_outcome code) }
 {
-    match decoding::meaning_of(code) {
-        Reading::Refused(x) => answers::refused(x),
-        Reading::Means(m) => match pair::write(m) {
-            Spelling::Refused(x) => answers::refused(x),
-            Spelling::Bytes(first, second) => steps::pair_step(first, second),
-        },
+    match stepped(code) {
+        Ok(number) => number,
+        Err(x) => answers::refused(x.reason.number(), x.place),
     }
 }

@@ -7,7 +7,7 @@ use Rattle.refusals.specs.Numbers.{Outcome}
 use Rattle.refusals.specs.Numbers.Outcome.{accepted, refused}
 use Rattle.refusals.specs.Laws.{two_ways, accepted-once}
 use Rattle.meaning.specs.declared.Meaning.{Meaning}
-use Rattle.meaning.specs.Answers.{Bytes}
+use Rattle.meaning.specs.declared.Bytes.{Bytes}
 use Rattle.spelling.specs.Counts.{pair, no_bytes}
 use Rattle.pair.specs.Pairs.{spelling_of}
 use Rattle.pair.specs.Preferred.{preferred}

@@ -10,7 +10,7 @@ use lib.Dec.{T, eqb, eqb→eq}
 use Rattle.refusals.specs.Numbers.{Outcome}
 use Rattle.refusals.specs.Numbers.Outcome.{accepted, refused}
 use Rattle.meaning.specs.declared.Meaning.{Meaning}
-use Rattle.meaning.specs.Answers.{Bytes}
+use Rattle.meaning.specs.declared.Bytes.{Bytes}
 use Rattle.logic.specs.Every.{all_left, all_right}
 use Rattle.pair.specs.Pairs.{spelling_of}
 use Rattle.pair.specs.Preferred.{preferred}

@@ -15,7 +15,7 @@ use Rattle.logic.specs.Cases.{cases}
 use Rattle.refusals.specs.Numbers.{Outcome}
 use Rattle.refusals.specs.Numbers.Outcome.{accepted, refused}
 use Rattle.meaning.specs.declared.Meaning.{Meaning}
-use Rattle.meaning.specs.Answers.{Bytes}
+use Rattle.meaning.specs.declared.Bytes.{Bytes}
 use Rattle.logic.specs.Every.{all_left, all_right}
 use Rattle.commandtable.specs.Codes as Codes
 use Rattle.commandtable.specs.Codes.{Command, second_means}

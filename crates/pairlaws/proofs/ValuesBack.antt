@@ -15,7 +15,7 @@ use Rattle.logic.specs.Truth.{both_left, both_right}
 use Rattle.refusals.specs.Numbers.{Outcome}
 use Rattle.refusals.specs.Numbers.Outcome.{accepted}
 use Rattle.meaning.specs.declared.Meaning.{Meaning}
-use Rattle.meaning.specs.Answers.{Bytes}
+use Rattle.meaning.specs.declared.Bytes.{Bytes}
 use Rattle.logic.specs.Every.{every, every_at}
 use Rattle.commandtable.specs.Codes as Codes
 use Rattle.commandtable.specs.Codes.{Command, second_means}

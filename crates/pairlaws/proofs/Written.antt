@@ -17,8 +17,7 @@ use Rattle.meaning.specs.declared.Meaning.{Meaning}
 use Rattle.meaning.specs.declared.Meaning.TheVariants as M
 use Rattle.meaning.specs.declared.Meaning.TheVariants.{Dcy, Rup, Cal, Bmp, Flt, Rng, Snc, Fx, Def, Atk, Sus, Lfo, Pv, Rdn, Wav, Fm, Rls, Res, ThreeOff, Vol, Tal, End, Hlt, Src, Dst, Pw, Tem, Utl, Pnt, Hed, Flg, Ps, Fs, Sca, Vdp, Vrt, Aut, Tps, Aux, Pvd, Pvr, Max, Utv, Fc, Rtp, Hld, Ms, Jif, Dtn, Por}
 use Rattle.logic.specs.Every.{every_at}
-use Rattle.note.specs.declared.Byte.{Byte}
-use Rattle.note.specs.declared.Byte.TheVariants.{Is, None}
+use Rattle.std.specs.Prelude.{Option, Some, None}
 use Rattle.note.specs.Reading.{note_of}
 use Rattle.note.specs.Writing.{length_byte, tied_byte, tone_byte, two_bytes, note_spelling}
 use Rattle.note.proofs.Back.{written-note_reads}
@@ -35,11 +34,11 @@ note-back : (n : Note) → ReadsBack (M.Note n) (note_spelling n)
 note-back n =
     go (tied_byte (length_byte n.duration n.shape) n.tied) (tone_byte n.tone) (λ a b e. written-note_reads n a b e)
   where
-    go : (x y : Byte) → ((a b : ℕ) → two_bytes x y ≡ accepted (record { first = a; second = b }) → (a % 4 ≡ 0) × (note_of a b ≡ n) × (a < 256) × (b < 256))
+    go : (x y : Option ℕ) → ((a b : ℕ) → two_bytes x y ≡ accepted (record { first = a; second = b }) → (a % 4 ≡ 0) × (note_of a b ≡ n) × (a < 256) × (b < 256))
         → ReadsBack (M.Note n) (two_bytes x y)
     go None y f = (refl, refl)
-    go (Is a) None f = (refl, refl)
-    go (Is a) (Is b) f = let r = f a b refl in (rw (eq-eqb (a % 4) 0 r.0) (ap (λ k. accepted (M.Note k)) r.1), r.2, r.3)
+    go (Some a) None f = (refl, refl)
+    go (Some a) (Some b) f = let r = f a b refl in (rw (eq-eqb (a % 4) 0 r.0) (ap (λ k. accepted (M.Note k)) r.1), r.2, r.3)
 
 destination-back : (v : ℕ) → ReadsBack (Dst v) (destination v)
 destination-back v =

@@ -13,6 +13,7 @@ use Rattle.pair.specs.Pairs.{meaning_of}
 use Rattle.clock.specs.Lengths.{length_of}
 use Rattle.clock.specs.Settings.{setting_of}
 use Rattle.timemap.specs.Maps.{Left}
+use Rattle.timemap.specs.Small.{Low}
 use Rattle.timemap.proofs.Within.{Within}
 use Rattle.pairmap.specs.Pairs.{ones, multiples, leaving, setting_map, single, note_map}
 use Rattle.pairmap.specs.Linear.{byte_length, single-note, single-command}
@@ -22,7 +23,7 @@ unfolding length_of
 note-low a b h p = rw p (leb→le (byte_length ones a) 672 (every_at (λ k. leb (byte_length ones k) 672) 256 tt a h))
 
 within-multiples : (t l v : ℕ) → t + l + v ≤ 672 → Within 1 (multiples t l v)
-within-multiples t l v h = record { peak = omega arith; tempo = omega arith; utl = omega arith; utv = omega arith }
+within-multiples t l v h = record { peak = omega arith; tempo = tt; utl = tt; utv = tt }
 
 note-within : (a n : ℕ) → n ≤ 672 → Within 1 (note_map a n)
 note-within a n h =
@@ -31,16 +32,16 @@ note-within a n h =
     (λ t. rw (s, t) (within-multiples 0 0 n (omega arith))))
     (λ s. rw s (within-multiples n 0 0 (omega arith)))
 
-within-leaving : (t l v : Left) → t ≤ 257 → l ≤ 257 → v ≤ 257 → Within 1 (leaving t l v)
+within-leaving : (t l v : Left) → Low t → Low l → Low v → Within 1 (leaving t l v)
 within-leaving t l v p q r = record { peak = omega arith; tempo = p; utl = q; utv = r }
 
 setting_within : (a b : ℕ) → b < 256 → Within 1 (setting_map (setting_of a b))
 setting_within a b h =
     let low : tempo_of b ≤ 256 = cases (eqb b 0) (λ e. rw e (lit≤ tt)) (λ e. rw e (omega arith)) in
-    cases (eqb a 0x06) (λ s. rw s (within-leaving _ _ _ (omega (arith, low)) (lit≤ tt) (lit≤ tt)))
-    (λ s. cases (eqb a 0x16) (λ t. rw (s, t) (within-leaving _ _ _ (lit≤ tt) (omega arith) (lit≤ tt)))
-    (λ t. cases (eqb a 0xF6) (λ u. rw (s, t, u) (within-leaving _ _ _ (lit≤ tt) (lit≤ tt) (omega arith)))
-    (λ u. rw (s, t, u) (within-leaving _ _ _ (lit≤ tt) (lit≤ tt) (lit≤ tt)))))
+    cases (eqb a 0x06) (λ s. rw s (within-leaving _ _ _ low tt tt))
+    (λ s. cases (eqb a 0x16) (λ t. rw (s, t) (within-leaving _ _ _ tt (omega arith) tt))
+    (λ t. cases (eqb a 0xF6) (λ u. rw (s, t, u) (within-leaving _ _ _ tt tt (omega arith)))
+    (λ u. rw (s, t, u) (within-leaving _ _ _ tt tt tt))))
 
 pub within-single : (a b : ℕ) → a < 256 → b < 256 → Within 1 (single (meaning_of a b))
 within-single a b ha hb =

@@ -23,9 +23,7 @@ fn more(a: TimeMap, fixed: u64, tempos: u64, utls: u64, utvs: u64) -> TimeMap
         tempos: a.tempos + tempos,
         utls: a.utls + utls,
         utvs: a.utvs + utvs,
-        tempo: a.tempo,
-        utl: a.utl,
-        utv: a.utv,
+        ..a
     }
 }
 
@@ -63,30 +61,24 @@ fn with_note(a: TimeMap, first: u8, n: u64) -> TimeMap
     }
 }
 
-// No length more, and the values left so.
-fn left_at(a: TimeMap, tempo: u32, utl: u32, utv: u32) -> TimeMap
-    ensures { result ≡ pairs.left_at a tempo utl utv }
-{
-    TimeMap {
-        fixed: a.fixed,
-        tempos: a.tempos,
-        utls: a.utls,
-        utvs: a.utvs,
-        tempo,
-        utl,
-        utv,
-    }
-}
-
 // A command leaves the value that it sets at what it sets.
 fn with_setting(a: TimeMap, first: u8, second: u8) -> TimeMap
     ensures { result ≡ joined a (setting_map (setting_of first second)) }
 {
     let after = clock::values_after(clock::at_start(), first, second);
     match first {
-        0x06 => left_at(a, after.tempo as u32 + 1, a.utl, a.utv),
-        0x16 => left_at(a, a.tempo, after.utl as u32 + 1, a.utv),
-        0xF6 => left_at(a, a.tempo, a.utl, after.utv as u32 + 1),
+        0x06 => TimeMap {
+            tempo: Some(after.tempo),
+            ..a
+        },
+        0x16 => TimeMap {
+            utl: Some(after.utl),
+            ..a
+        },
+        0xF6 => TimeMap {
+            utv: Some(after.utv),
+            ..a
+        },
         _ => a,
     }
 }
@@ -102,7 +94,7 @@ pub fn with_pair(a: TimeMap, first: u8, second: u8) -> TimeMap
             utl: 1,
             utv: 1,
         };
-        with_note(a, first, clock::length(ones, first, second) as u64)
+        with_note(a, first, u64::from(clock::length(ones, first, second)))
     } else {
         with_setting(a, first, second)
     }

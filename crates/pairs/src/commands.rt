@@ -1,113 +1,89 @@
 // What a pair's meaning is called: source 004's abbreviation, and the value.
-use crate::notes::put_note;
-use crate::text::{number_of, put_integer, put_nth};
+use crate::notes::NoteWords;
 use meaning::{Bump, Meaning, Note};
+use std::fmt;
 
-// A meaning by what is to be shown: a note, or a command by its number in source 004's order, from 0 on, and
-// its value.
+// A meaning by what is to be shown: a note, or a command's abbreviation and its value.
 #[derive(Clone, Copy)]
-enum Shown {
+pub enum Words {
     Note(Note),
-    Bare(u8),
-    Count(u8, u16),
-    Integer(u8, i32),
-    Switch(u8, bool),
-    Bump(u8, Bump),
+    Bare(&'static str),
+    Count(&'static str, u16),
+    Integer(&'static str, i32),
+    Switch(&'static str, bool),
+    Bump(&'static str, Bump),
 }
 
 // One line a case, in source 004's order.
-fn worded(meaning: Meaning) -> Shown {
-    match meaning {
-        Meaning::Note(note) => Shown::Note(note),
-        Meaning::Dcy(v) => Shown::Count(0, v),
-        Meaning::Rup(v) => Shown::Count(1, v),
-        Meaning::Cal(v) => Shown::Count(2, v),
-        Meaning::Bmp(bump) => Shown::Bump(3, bump),
-        Meaning::Flt(yes) => Shown::Switch(4, yes),
-        Meaning::Rng(yes) => Shown::Switch(5, yes),
-        Meaning::Snc(yes) => Shown::Switch(6, yes),
-        Meaning::Fx(yes) => Shown::Switch(7, yes),
-        Meaning::Def(v) => Shown::Count(8, v),
-        Meaning::Atk(v) => Shown::Count(9, v),
-        Meaning::Sus(v) => Shown::Count(10, v),
-        Meaning::Lfo(v) => Shown::Count(11, v),
-        Meaning::Pv(yes) => Shown::Switch(12, yes),
-        Meaning::Rdn(v) => Shown::Count(13, v),
-        Meaning::Wav(v) => Shown::Count(14, v),
-        Meaning::Fm(v) => Shown::Count(15, v),
-        Meaning::Rls(v) => Shown::Count(16, v),
-        Meaning::Res(v) => Shown::Count(17, v),
-        Meaning::ThreeOff(yes) => Shown::Switch(18, yes),
-        Meaning::Vol(v) => Shown::Count(19, v),
-        Meaning::Tal => Shown::Bare(20),
-        Meaning::End => Shown::Bare(21),
-        Meaning::Hlt => Shown::Bare(22),
-        Meaning::Src(v) => Shown::Count(23, v),
-        Meaning::Dst(v) => Shown::Count(24, v),
-        Meaning::Pw(v) => Shown::Count(25, v),
-        Meaning::Tem(v) => Shown::Count(26, v),
-        Meaning::Utl(v) => Shown::Count(27, v),
-        Meaning::Pnt(v) => Shown::Count(28, v),
-        Meaning::Hed(v) => Shown::Count(29, v),
-        Meaning::Flg(v) => Shown::Count(30, v),
-        Meaning::Ps(z) => Shown::Integer(31, z),
-        Meaning::Fs(z) => Shown::Integer(32, z),
-        Meaning::Sca(z) => Shown::Integer(33, z),
-        Meaning::Vdp(v) => Shown::Count(34, v),
-        Meaning::Vrt(v) => Shown::Count(35, v),
-        Meaning::Aut(z) => Shown::Integer(36, z),
-        Meaning::Tps(z) => Shown::Integer(37, z),
-        Meaning::Aux(v) => Shown::Count(38, v),
-        Meaning::Pvd(v) => Shown::Count(39, v),
-        Meaning::Pvr(v) => Shown::Count(40, v),
-        Meaning::Max(v) => Shown::Count(41, v),
-        Meaning::Utv(v) => Shown::Count(42, v),
-        Meaning::Fc(v) => Shown::Count(43, v),
-        Meaning::Rtp(z) => Shown::Integer(44, z),
-        Meaning::Hld(v) => Shown::Count(45, v),
-        Meaning::Ms(v) => Shown::Count(46, v),
-        Meaning::Jif(z) => Shown::Integer(47, z),
-        Meaning::Dtn(z) => Shown::Integer(48, z),
-        Meaning::Por(v) => Shown::Count(49, v),
+impl From<Meaning> for Words {
+    fn from(meaning: Meaning) -> Words {
+        match meaning {
+            Meaning::Note(note) => Words::Note(note),
+            Meaning::Dcy(v) => Words::Count("DCY", v),
+            Meaning::Rup(v) => Words::Count("RUP", v),
+            Meaning::Cal(v) => Words::Count("CAL", v),
+            Meaning::Bmp(bump) => Words::Bump("BMP", bump),
+            Meaning::Flt(yes) => Words::Switch("FLT", yes),
+            Meaning::Rng(yes) => Words::Switch("RNG", yes),
+            Meaning::Snc(yes) => Words::Switch("SNC", yes),
+            Meaning::Fx(yes) => Words::Switch("F-X", yes),
+            Meaning::Def(v) => Words::Count("DEF", v),
+            Meaning::Atk(v) => Words::Count("ATK", v),
+            Meaning::Sus(v) => Words::Count("SUS", v),
+            Meaning::Lfo(v) => Words::Count("LFO", v),
+            Meaning::Pv(yes) => Words::Switch("P&V", yes),
+            Meaning::Rdn(v) => Words::Count("RDN", v),
+            Meaning::Wav(v) => Words::Count("WAV", v),
+            Meaning::Fm(v) => Words::Count("F-M", v),
+            Meaning::Rls(v) => Words::Count("RLS", v),
+            Meaning::Res(v) => Words::Count("RES", v),
+            Meaning::ThreeOff(yes) => Words::Switch("3-0", yes),
+            Meaning::Vol(v) => Words::Count("VOL", v),
+            Meaning::Tal => Words::Bare("TAL"),
+            Meaning::End => Words::Bare("END"),
+            Meaning::Hlt => Words::Bare("HLT"),
+            Meaning::Src(v) => Words::Count("SRC", v),
+            Meaning::Dst(v) => Words::Count("DST", v),
+            Meaning::Pw(v) => Words::Count("P-W", v),
+            Meaning::Tem(v) => Words::Count("TEM", v),
+            Meaning::Utl(v) => Words::Count("UTL", v),
+            Meaning::Pnt(v) => Words::Count("PNT", v),
+            Meaning::Hed(v) => Words::Count("HED", v),
+            Meaning::Flg(v) => Words::Count("FLG", v),
+            Meaning::Ps(z) => Words::Integer("P-S", z),
+            Meaning::Fs(z) => Words::Integer("F-S", z),
+            Meaning::Sca(z) => Words::Integer("SCA", z),
+            Meaning::Vdp(v) => Words::Count("VDP", v),
+            Meaning::Vrt(v) => Words::Count("VRT", v),
+            Meaning::Aut(z) => Words::Integer("AUT", z),
+            Meaning::Tps(z) => Words::Integer("TPS", z),
+            Meaning::Aux(v) => Words::Count("AUX", v),
+            Meaning::Pvd(v) => Words::Count("PVD", v),
+            Meaning::Pvr(v) => Words::Count("PVR", v),
+            Meaning::Max(v) => Words::Count("MAX", v),
+            Meaning::Utv(v) => Words::Count("UTV", v),
+            Meaning::Fc(v) => Words::Count("F-C", v),
+            Meaning::Rtp(z) => Words::Integer("RTP", z),
+            Meaning::Hld(v) => Words::Count("HLD", v),
+            Meaning::Ms(v) => Words::Count("MS#", v),
+            Meaning::Jif(z) => Words::Integer("JIF", z),
+            Meaning::Dtn(z) => Words::Integer("DTN", z),
+            Meaning::Por(v) => Words::Count("POR", v),
+        }
     }
 }
 
-// The abbreviation of a command by its number.
-fn put_name(out: &mut [u8], at: usize, number: u8) -> usize {
-    put_nth(
-        out,
-        at,
-        b"DCY RUP CAL BMP FLT RNG SNC F-X DEF ATK SUS LFO P&V RDN WAV F-M RLS RES 3-0 VOL TAL END HLT SRC DST P-W TEM UTL \
-         PNT HED FLG P-S F-S SCA VDP VRT AUT TPS AUX PVD PVR MAX UTV F-C RTP HLD MS# JIF DTN POR",
-        number,
-    )
-}
-
-fn bump_number(bump: Bump) -> u8 {
-    match bump {
-        Bump::Up => 2,
-        Bump::Down => 3,
-    }
-}
-
-// NO and YES stand first, so that number_of finds them.
-fn put_named(out: &mut [u8], at: usize, number: u8, word: u8) -> usize {
-    let to = put_name(out, at, number);
-    put_nth(out, to, b"NO YES UP DN", word)
-}
-
-fn put_valued(out: &mut [u8], at: usize, number: u8, value: i32) -> usize {
-    let to = put_name(out, at, number);
-    put_integer(out, to, value)
-}
-
-pub fn put_meaning(out: &mut [u8], at: usize, meaning: Meaning) -> usize {
-    match worded(meaning) {
-        Shown::Note(note) => put_note(out, at, note),
-        Shown::Bare(n) => put_name(out, at, n),
-        Shown::Count(n, v) => put_valued(out, at, n, v as i32),
-        Shown::Integer(n, z) => put_valued(out, at, n, z),
-        Shown::Switch(n, yes) => put_named(out, at, n, number_of(yes)),
-        Shown::Bump(n, bump) => put_named(out, at, n, bump_number(bump)),
+impl fmt::Display for Words {
+    fn fmt<W: fmt::Write>(&self, f: &mut fmt::Formatter<W>) -> fmt::Result {
+        match *self {
+            Words::Note(note) => write!(f, "{}", NoteWords(note)),
+            Words::Bare(name) => f.write_str(name),
+            Words::Count(name, value) => write!(f, "{name} {value}"),
+            Words::Integer(name, value) => write!(f, "{name} {value}"),
+            Words::Switch(name, false) => write!(f, "{name} NO"),
+            Words::Switch(name, true) => write!(f, "{name} YES"),
+            Words::Bump(name, Bump::Up) => write!(f, "{name} UP"),
+            Words::Bump(name, Bump::Down) => write!(f, "{name} DN"),
+        }
     }
 }

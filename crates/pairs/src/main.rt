@@ -2,15 +2,12 @@
 // byte is no pair and is left out.
 #![tactic(auto)]
 
-use meaning::{Meaning, Reading, Spelling};
-use printing::{put, put_after, put_hex, write};
-use refusals::Refusal;
+use commands::Words;
 use std::io;
 use std::io::{Read, Write};
 
 mod commands;
 mod notes;
-mod text;
 
 // Input is taken in parts of this many bytes: even, so that no pair is cut in two.
 const PART: usize = 65536;
@@ -18,67 +15,33 @@ const PART: usize = 65536;
 // The output's buffer is emptied from here on; no line is as long as what is left of PART bytes.
 const NEARLY_FULL: usize = 65000;
 
-// The word, and the paper's number.
-fn put_refusal(out: &mut [u8], at: usize, x: Refusal) -> usize {
-    put_after(out, at, b" refused ", x.number as u64)
-}
-
-// Two bytes, with a space between.
-fn put_bytes(out: &mut [u8], at: usize, first: u8, second: u8) -> usize {
-    let a = put_hex(out, at, first);
-    let b = put(out, a, b" ");
-    put_hex(out, b, second)
-}
-
-fn put_spelling(out: &mut [u8], at: usize, meaning: Meaning) -> usize {
-    match pair::write(meaning) {
-        Spelling::Bytes(first, second) => {
-            let to = put(out, at, b" ");
-            put_bytes(out, to, first, second)
+fn write_line(out: &mut impl Write, first: u8, second: u8) -> io::Result<()> {
+    write!(out, "{first:02X} {second:02X} ")?;
+    match pair::read(first, second) {
+        Ok(meaning) => {
+            write!(out, "{} ", Words::from(meaning))?;
+            match pair::write(meaning) {
+                Ok(bytes) => writeln!(out, "{:02X} {:02X}", bytes.first, bytes.second),
+                Err(refusal) => writeln!(out, "refused {}", refusal.reason.number()),
+            }
         }
-        Spelling::Refused(x) => put_refusal(out, at, x),
-    }
-}
-
-fn put_answer(out: &mut [u8], at: usize, answer: Reading) -> usize {
-    match answer {
-        Reading::Means(meaning) => {
-            let to = commands::put_meaning(out, at, meaning);
-            put_spelling(out, to, meaning)
-        }
-        Reading::Refused(x) => put_refusal(out, at, x),
-    }
-}
-
-fn put_line(out: &mut [u8], at: usize, first: u8, second: u8) -> usize {
-    let answer = pair::read(first, second);
-    let a = put_bytes(out, at, first, second);
-    let b = put_answer(out, a, answer);
-    put(out, b, b"\n")
-}
-
-fn write_out(to: &mut impl Write, out: &[u8], used: usize) -> io::Result<()> {
-    write(to, fields::part(out, 0, used))?;
-    Ok(())
-}
-
-// Gives the place where there is room for a line: this one, or the start after the buffer is written out.
-fn with_room(to: &mut impl Write, out: &[u8], used: usize) -> io::Result<usize> {
-    if used < NEARLY_FULL {
-        Ok(used)
-    } else {
-        write_out(to, out, used)?;
-        Ok(0)
+        Err(refusal) => writeln!(out, "refused {}", refusal.reason.number()),
     }
 }
 
 fn show_pairs(to: &mut impl Write, input: &[u8], out: &mut [u8]) -> io::Result<()> {
     let mut used = 0;
-    for k in 0..input.len() / 2 {
-        let at = with_room(to, out, used)?;
-        used = put_line(out, at, input[2 * k], input[2 * k + 1]);
+    for pair in input.chunks_exact(2) {
+        if NEARLY_FULL < used {
+            to.write_all(&out[..used])?;
+            used = 0;
+        }
+        let mut room = &mut out[used..];
+        write_line(&mut room, pair[0], pair[1])?;
+        let left = room.len();
+        used = out.len().saturating_sub(left);
     }
-    write_out(to, out, used)
+    to.write_all(&out[..used])
 }
 
 // Takes one part of the input; answers whether there may be another.

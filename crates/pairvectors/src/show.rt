@@ -1,130 +1,63 @@
-// A line for each answer: the label, and the bytes, the half-step or the refusal. The labels of a function
-// stand in one list, and a row has its label by number: one literal is proved sooner than one for each row.
-use meaning::{
-    Accidental, Duration, HalfStep, Letter, Meaning, Note, Pitch, Shape, Spelling, Tone,
-};
-use printing::{write, write_hex, write_refusal, write_signed};
-use refusals::Refusal;
+// A line for each answer: the label, and the bytes, the half-step or the refusal.
+use meaning::{Accidental, Duration, Letter, Meaning, Note, Pitch, Shape, Tone};
 use std::io;
 use std::io::Write;
 
-// A label by its number, from 0 on; a semicolon stands after each.
-fn write_label(out: &mut impl Write, labels: &[u8], number: u8) -> io::Result<()> {
-    write(out, fields::entry_at(labels, b';', number as usize))?;
-    Ok(())
-}
+// A row of a table: its label, and a value.
+pub type Row<T> = (&'static str, T);
 
-fn refused(out: &mut impl Write, x: Refusal) -> io::Result<()> {
-    write(out, b" refused ")?;
-    write_refusal(out, x)?;
-    Ok(())
-}
-
-fn write_bytes(out: &mut impl Write, first: u8, second: u8) -> io::Result<()> {
-    write(out, b" ")?;
-    write_hex(out, first)?;
-    write(out, b" ")?;
-    write_hex(out, second)?;
-    Ok(())
-}
-
-fn write_step(out: &mut impl Write, v: i32) -> io::Result<()> {
-    write(out, b" ")?;
-    write_signed(out, v)?;
-    Ok(())
-}
-
-pub fn spelling(out: &mut impl Write, labels: &[u8], k: u8, meaning: Meaning) -> io::Result<()> {
-    write_label(out, labels, k)?;
-    match pair::write(meaning) {
-        Spelling::Bytes(first, second) => write_bytes(out, first, second)?,
-        Spelling::Refused(x) => refused(out, x)?,
+// How each meaning is spelled.
+pub fn spellings(out: &mut impl Write, rows: &[Row<Meaning>]) -> io::Result<()> {
+    for &(label, meaning) in rows {
+        match pair::write(meaning) {
+            Ok(pair) => writeln!(out, "{label} {:02X} {:02X}", pair.first, pair.second)?,
+            Err(refusal) => writeln!(out, "{label} refused {refusal}")?,
+        }
     }
-    write(out, b"\n")?;
     Ok(())
 }
 
-pub fn half_step(
-    out: &mut impl Write,
-    labels: &[u8],
-    k: u8,
-    letter: Letter,
-    accidental: Accidental,
-    octave: u16,
-) -> io::Result<()> {
-    write_label(out, labels, k)?;
-    match meaning::half_step(Pitch {
+// The half-step of each pitch.
+pub fn half_steps(out: &mut impl Write, rows: &[Row<Pitch>]) -> io::Result<()> {
+    for &(label, pitch) in rows {
+        match meaning::half_step(pitch) {
+            Ok(step) => writeln!(out, "{label} {step}")?,
+            Err(refusal) => writeln!(out, "{label} refused {refusal}")?,
+        }
+    }
+    Ok(())
+}
+
+pub fn pitch(letter: Letter, accidental: Accidental, octave: u16) -> Pitch {
+    Pitch {
         letter,
         accidental,
         octave,
-    }) {
-        HalfStep::Step(z) => write_step(out, z)?,
-        HalfStep::Refused(x) => refused(out, x)?,
     }
-    write(out, b"\n")?;
-    Ok(())
 }
 
-// A note of this pitch, a plain quarter.
-pub fn pitched(
-    out: &mut impl Write,
-    labels: &[u8],
-    k: u8,
-    letter: Letter,
-    accidental: Accidental,
-    octave: u16,
-) -> io::Result<()> {
-    let tone = Tone::Sounds(Pitch {
-        letter,
-        accidental,
-        octave,
-    });
-    let note = Note {
-        duration: Duration::Quarter,
-        shape: Shape::Plain,
-        tied: false,
-        tone,
-    };
-    spelling(out, labels, k, Meaning::Note(note))
-}
-
-// A note of this length, C natural of octave 4.
-pub fn sounding(
-    out: &mut impl Write,
-    labels: &[u8],
-    k: u8,
-    duration: Duration,
-    shape: Shape,
-    tied: bool,
-) -> io::Result<()> {
-    let pitch = Pitch {
-        letter: Letter::C,
-        accidental: Accidental::Natural,
-        octave: 4,
-    };
-    let tone = Tone::Sounds(pitch);
-    let note = Note {
+fn note(duration: Duration, shape: Shape, tied: bool, tone: Tone) -> Meaning {
+    Meaning::Note(Note {
         duration,
         shape,
         tied,
         tone,
-    };
-    spelling(out, labels, k, Meaning::Note(note))
+    })
+}
+
+// A note of this pitch, a plain quarter.
+pub fn pitched(letter: Letter, accidental: Accidental, octave: u16) -> Meaning {
+    let tone = Tone::Sounds(pitch(letter, accidental, octave));
+    note(Duration::Quarter, Shape::Plain, false, tone)
+}
+
+// A note of this length, C natural of octave 4.
+pub fn sounding(duration: Duration, shape: Shape, tied: bool) -> Meaning {
+    let tone = Tone::Sounds(pitch(Letter::C, Accidental::Natural, 4));
+    note(duration, shape, tied, tone)
 }
 
 // An untied rest of this length.
-pub fn resting(
-    out: &mut impl Write,
-    labels: &[u8],
-    k: u8,
-    duration: Duration,
-    shape: Shape,
-) -> io::Result<()> {
-    let note = Note {
-        duration,
-        shape,
-        tied: false,
-        tone: Tone::Rest,
-    };
-    spelling(out, labels, k, Meaning::Note(note))
+pub fn resting(duration: Duration, shape: Shape) -> Meaning {
+    note(duration, shape, false, Tone::Rest)
 }

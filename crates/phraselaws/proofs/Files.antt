@@ -13,9 +13,8 @@ use Rattle.fields.specs.declared.Span.{Span}
 use Rattle.fields.specs.Parts.{part_of}
 use Rattle.refusals.specs.Numbers.{Outcome}
 use Rattle.refusals.specs.Numbers.Outcome.{accepted, refused}
-use Rattle.refusals.specs.Tests.{first_of, guarded, and_then}
+use Rattle.refusals.specs.Tests.{Verdict, first_of, guarded, and_then}
 use Rattle.refusals.specs.Laws.{two_ways, guarded-passed}
-use Rattle.refusals.specs.declared.Verdict.{Verdict}
 use Rattle.container.specs.declared.Layout.{Layout}
 use Rattle.container.specs.Head.{head_of, voices_of, voice_span}
 use Rattle.container.specs.Layout.{layout_of, container_outcome}

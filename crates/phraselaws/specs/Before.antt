@@ -12,7 +12,7 @@
 use Rattle.std.specs.Prelude.{ℕ, ◌<◌, ◌≡◌, Bool, false, ◌&&◌, ◌||◌, List, [], ◌∷◌, eqb}
 use Rattle.fields.specs.Parts.{part_of}
 use Rattle.meaning.specs.declared.Meaning.{Meaning}
-use Rattle.meaning.specs.Answers.{Bytes}
+use Rattle.meaning.specs.declared.Bytes.{Bytes}
 use Rattle.refusals.specs.Numbers.{Outcome}
 use Rattle.pair.specs.Pairs.{meaning_from, spelling_from}
 use Rattle.container.specs.Layout.{layout_of}

@@ -3,15 +3,14 @@
 -- after-after, placed-placed   one text and then another are both in one
 -- then_after, then_placed      the same of a list and a place that the first text left
 -- fitting_all                  a text that has room is put whole
--- put_none                     no text changes no cell
--- put-front                    a text put at the start is what stands there
--- put-before                   a byte set, and then the text before it put, are both put in one
-use Rattle.std.proofs.Common.{ℕ, zero, suc, ◌≡◌, ◌+◌, ◌-◌, ◌≤◌, ◌<◌, List, [], ◌∷◌, ◌++◌, length, take, drop}
+-- put-digits                   cells written up to a place, those before and after as they were, are a text
+--                              put
+use Rattle.std.proofs.Common.{ℕ, zero, suc, ◌≡◌, ◌+◌, ◌-◌, ◌≤◌, List, [], ◌∷◌, ◌++◌, length, take, drop}
 use Rattle.std.proofs.Common.{refl, sym, ap, ◌∙◌, arith, leb, append_assoc, length-append, length-take}
-use Rattle.std.proofs.Math.ListN.{set, drop_of_length-le}
-use Rattle.std.proofs.Math.Seq.{take-append_seam, drop-append-add, append_snoc, paste-zero}
-use Rattle.std.proofs.lemmas.List.{append-nil, take_all, take_at, drop_at, length-take-le, drop-drop}
-use Rattle.std.proofs.lemmas.List.{set_split, take-set-le}
+use Rattle.std.proofs.Math.ListN.{drop_of_length-le}
+use Rattle.std.proofs.Math.Seq.{drop-append-add}
+use Rattle.std.proofs.lemmas.List.{append-nil, take_all, take_at, length-take-le, drop-drop}
+use Rattle.std.proofs.lemmas.List.{take-append-drop}
 use Rattle.std.proofs.lemmas.Bool.{leb-true, leb-false}
 use Rattle.logic.specs.Cases.{cases}
 use Rattle.fields.specs.Parts.{put}
@@ -115,22 +114,10 @@ module _ (out : List ℕ) (at : ℕ) (a b : List ℕ) where
     pub then_placed : text_placed mid to b ≡ text_placed out at (a ++ b)
     then_placed = rw (mid-is, to_is) placed-placed
 
-pub put_none : (m : List ℕ) (at : ℕ) → m ≡ put m at []
+pub put-digits : (out new p : List ℕ) (at from to : ℕ) → at + length p ≡ to → from + length p ≡ to
+    → take from new ≡ take from out → drop from new ≡ p ++ drop to out → new ≡ put out at p
 unfolding put
-put_none m at = paste-zero m at []
-
-pub put-front : (m p : List ℕ) → take (length p) (put m 0 p) ≡ p
-unfolding put
-put-front m p = take-append_seam p (drop (0 + length p) m)
-
-pub put-before : (m : List ℕ) (at : ℕ) (p : List ℕ) (d : ℕ) → at + length p < length m
-    → put (set m (at + length p) d) at p ≡ put m at (p ++ (d ∷ []))
-unfolding put
-put-before m at p d h =
-    let to = at + length p in
-    let start : length (take to m) ≡ to = length-take-le to m (omega arith) in
-    let later : drop to (set m to d) ≡ d ∷ drop (suc to) m =
-    rw (set_split m to d h) (drop_at (take to m) (d ∷ drop (suc to) m) to start) in
-    let both : at + length (p ++ (d ∷ [])) ≡ suc to = simp length-append (omega arith) in
-    rw (take-set-le at m to d (omega arith), later, both, ← append_assoc (take at m) p (d ∷ []))
-    (sym (append_snoc (take at m ++ p) d (drop (suc to) m)))
+put-digits out new p at from to ends begins before written =
+    let here : from ≡ at = omega arith in
+    sym (take-append-drop from new)
+    ∙ rw (before, written, here, ends) (sym (append_assoc (take at out) p (drop to out)))

@@ -1,18 +1,16 @@
--- The text of a signed number, from its sign and its size.
--- signed_below, signed_above   of a negative number, and of any other
-use Rattle.std.proofs.Common.{◌≡◌, ℕ, ℤ, pos, negsuc, true, false, ◌∷◌, arith}
-use Rattle.signed.specs.declared.Parts.{Parts}
-use Rattle.signed.specs.Signs.{parts_of}
-use Rattle.printing.specs.Digits.{decimal, signed_digits}
+-- std writes the same text of a signed number.
+use Rattle.std.specs.Prelude.{ℕ, ℤ, pos, negsuc, suc, ◌≡◌, ◌<◌, ◌^◌, List, ◌∷◌}
+use Rattle.std.specs.Int.{w32}
+use Rattle.std.specs.Int.Signed.{mag}
+use Rattle.std.specs.Fmt as fmt
+use Rattle.std.proofs.Common.{ap, sym, ◌∙◌, arith, add-one, to_z, of_z, to_z-of_z}
+use Rattle.printing.specs.Digits.{signed_digits}
+use Rattle.printing.proofs.Decimal.{decimal_std}
 
-pub signed_below : (z : ℤ) (p : Parts) → p ≡ parts_of z → p.negative ≡ true
-    → 45 ∷ decimal p.size ≡ signed_digits z
+same : (z : ℤ) → mag z < 2 ^ 31 → signed_digits z ≡ fmt.signed_decimal z
 unfolding signed_digits
-signed_below (pos n) p e t = let none : ◌≡◌ {A = ℕ} 0 1 = cc in absurd (omega arith)
-signed_below (negsuc n) p e t = rw e
+same (pos n) h = decimal_std n (omega (arith, h))
+same (negsuc n) h = rw (add-one n) (ap (λ (l : List ℕ). 45 ∷ l) (decimal_std (suc n) (omega (arith, h))))
 
-pub signed_above : (z : ℤ) (p : Parts) → p ≡ parts_of z → p.negative ≡ false
-    → decimal p.size ≡ signed_digits z
-unfolding signed_digits
-signed_above (pos n) p e t = rw e
-signed_above (negsuc n) p e t = let none : ◌≡◌ {A = ℕ} 0 1 = cc in absurd (omega arith)
+pub signed_std : (z : ℤ) → mag z < 2 ^ 31 → fmt.signed_decimal (to_z w32 (of_z w32 z)) ≡ signed_digits z
+signed_std z h = ap fmt.signed_decimal (to_z-of_z {w = w32} (record { sfits = h })) ∙ sym (same z h)

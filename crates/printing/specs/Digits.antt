@@ -1,12 +1,10 @@
 -- Numbers as text, in ASCII.
 -- decimal_in, decimal     the decimal digits of a number, in at most so many; one of 64 bits has at most 20
 --                         (any so many that hold it give the same: proofs/Decimal.antt, decimal-enough)
--- last_digits             the last k decimal digits of a number
 -- hex_digit, hex_digits   the last hex digit of a number, in upper case; the two of a byte
 -- signed_digits           a minus sign where a number is negative, and the decimal digits of its size
 -- refusal_digits          a refusal's number and place, a space between them
 use Rattle.std.specs.Prelude.{ℕ, zero, suc, ◌+◌, ◌/◌, ◌%◌, cond, List, [], ◌∷◌, ◌++◌, ltb, ℤ, pos, negsuc}
-use Rattle.refusals.specs.declared.Refusal.{Refusal}
 
 unfoldable pub decimal_in : ℕ → ℕ → List ℕ
 decimal_in zero n = []
@@ -14,10 +12,6 @@ decimal_in (suc k) n = cond (ltb n 10) ((48 + n) ∷ []) (decimal_in k (n / 10) 
 
 unfoldable pub decimal : ℕ → List ℕ
 decimal n = decimal_in 20 n
-
-abbrev pub last_digits : ℕ → ℕ → List ℕ
-last_digits zero n = []
-last_digits (suc k) n = last_digits k (n / 10) ++ ((48 + n % 10) ∷ [])
 
 abbrev pub hex_digit : ℕ → ℕ
 hex_digit n = cond (ltb (n % 16) 10) (48 + n % 16) (55 + n % 16)
@@ -29,5 +23,5 @@ unfoldable pub signed_digits : ℤ → List ℕ
 signed_digits (pos n) = decimal n
 signed_digits (negsuc n) = 45 ∷ decimal (n + 1)
 
-abbrev pub refusal_digits : Refusal → List ℕ
-refusal_digits x = decimal x.number ++ 32 ∷ decimal x.place
+abbrev pub refusal_digits : ℕ → ℕ → List ℕ
+refusal_digits number place = decimal number ++ 32 ∷ decimal place

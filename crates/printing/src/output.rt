@@ -5,9 +5,8 @@ ghost use Rattle.std.specs.Io.KnownBytes.{Appends, Keeps};
 ghost use Rattle.printing.specs.Digits.{decimal, hex_digits, signed_digits, refusal_digits};
 ghost use Rattle.printing.specs.Writing.{TakesPart, AppendsFailure, TakesPartOfFailure};
 
-use crate::digits::decimal;
 use crate::text::hex;
-use refusals::Refusal;
+use itoa::Buffer;
 use std::io::{Error, ErrorKind, Write};
 use std::{io, str};
 
@@ -33,7 +32,8 @@ fn write_some<W: Write>(out: &mut W, text: &[u8]) -> io::Result<usize>
     Err(Error::from(ErrorKind::TimedOut))
 }
 
-// internal: a text.
+// internal: a text. A loop over single writes: std's write_all does not say what a writer that fails has
+// taken.
 pub fn write<W: Write>(out: &mut W, text: &[u8]) -> io::Result<usize>
     ensures value { IfOk result (λ k. k ≡ length text.now) }
     ensures written { OnOk result (Appends (W.contents out.old) (W.contents out.new) text.now) }
@@ -52,8 +52,8 @@ pub fn write_number<W: Write>(out: &mut W, n: u64) -> io::Result<usize>
     ensures written { OnOk result (Appends (W.contents out.old) (W.contents out.new) (decimal n)) }
     ensures failed { OnErr result (TakesPart (W.contents out.old) (W.contents out.new) (decimal n)) }
 {
-    let mut digits = [0u8; 20];
-    write(out, decimal(n, &mut digits))
+    let mut buffer = Buffer::new();
+    write(out, buffer.format(n).as_bytes())
 }
 
 // internal: a text and a number after it. Answers how long the number is.
@@ -74,8 +74,7 @@ pub fn write_hex<W: Write>(out: &mut W, byte: u8) -> io::Result<usize>
     ensures written { OnOk result (Appends (W.contents out.old) (W.contents out.new) (hex_digits byte)) }
     ensures failed { OnErr result (TakesPart (W.contents out.old) (W.contents out.new) (hex_digits byte)) }
 {
-    let digits = hex(byte);
-    write(out, &digits)
+    write(out, &hex(byte))
 }
 
 // internal: a minus sign where a number is negative, and its size.
@@ -84,23 +83,20 @@ pub fn write_signed<W: Write>(out: &mut W, v: i32) -> io::Result<usize>
     ensures written { OnOk result (Appends (W.contents out.old) (W.contents out.new) (signed_digits v)) }
     ensures failed { OnErr result (TakesPart (W.contents out.old) (W.contents out.new) (signed_digits v)) }
 {
-    let parts = signed::parts_of(v);
-    let size = parts.size as u64;
-    if parts.negative {
-        Ok(1 + write_after(out, b"-", size)?)
-    } else {
-        write_number(out, size)
-    }
+    let mut buffer = Buffer::new();
+    write(out, buffer.format(v).as_bytes())
 }
 
 // internal: a refusal's number and place, a space between them.
-pub fn write_refusal<W: Write>(out: &mut W, x: Refusal) -> io::Result<usize>
-    ensures value { IfOk result (λ k. k ≡ length (refusal_digits x)) }
-    ensures written { OnOk result (Appends (W.contents out.old) (W.contents out.new) (refusal_digits x)) }
-    ensures failed { OnErr result (TakesPart (W.contents out.old) (W.contents out.new) (refusal_digits x)) }
+pub fn write_refusal<W: Write>(out: &mut W, number: u32, place: usize) -> io::Result<usize>
+    ensures value { IfOk result (λ k. k ≡ length (refusal_digits number place)) }
+    ensures written { OnOk result
+        (Appends (W.contents out.old) (W.contents out.new) (refusal_digits number place)) }
+    ensures failed { OnErr result
+        (TakesPart (W.contents out.old) (W.contents out.new) (refusal_digits number place)) }
 {
-    let number = write_number(out, x.number as u64)?;
-    Ok(number + 1 + write_after(out, b" ", x.place as u64)?)
+    let first = write_number(out, number as u64)?;
+    Ok(first + 1 + write_after(out, b" ", place as u64)?)
 }
 
 // More bytes than std writes of an error.

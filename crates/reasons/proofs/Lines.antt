@@ -1,4 +1,4 @@
--- The phrases as the code holds them, in the order of the numbers from 0 on, and the table's.
+-- The phrases as one list, in the order of the numbers from 0 on with an end mark after each, and the table's.
 -- phrase_lines    the phrases of the numbers below a bound
 -- phrases-held   one of them by its number is the table's, of every number
 use Prim.Native.Nat.{ℕ, zero, suc, ◌+◌, ◌≤◌}
@@ -10,7 +10,8 @@ use lib.Dec.{ltb}
 use lib.ListN.{get_or}
 use borrow.Author.Tests.{ne_eqb, ltb-true}
 use Rattle.fields.specs.Entries.{entry_at, entries_joined, entry-joined}
-use Rattle.refusals.specs.Numbers.{Reason, number_of}
+use Rattle.refusals.specs.declared.Reason.{Reason}
+use Rattle.refusals.specs.Numbers.{number_of}
 use Rattle.logic.specs.Truth.{both}
 use Rattle.reasons.specs.Phrases.{table, found, phrase_at}
 

@@ -10,48 +10,49 @@ use Rattle.std.proofs.Common.{sym, subst, arith, not-suc-le-zero, leb→le, ltb�
 use Rattle.logic.specs.Cases.{cases}
 use Rattle.logic.specs.Truth.{neither}
 use Rattle.logic.specs.Every.{all_left, all_right, each, each_at}
-use Rattle.refusals.specs.Numbers.{Reason, number_of}
-use Rattle.refusals.specs.Numbers.Reason.{too_short, magic, version, data_offset, rsid_reserved, songs, reserved_bits, mus_payload, no_payload, past_memory, rsid_load, rsid_init, free_pages, mus_short, mus_past_memory, voice_length, voices_past_file, text_lines, bytes_after_text, unassigned_pair, value_range, hlt_misplaced, structure, hed_zero, too_deep, too_long, memory_size, voice_number, list_lengths, no_pair, no_such_song, sap_first_line, sap_line, sap_tags, sap_block}
+use Rattle.refusals.specs.declared.Reason.{Reason}
+use Rattle.refusals.specs.declared.Reason.TheVariants.{TooShort, Magic, Version, DataOffset, RsidReserved, Songs, ReservedBits, MusPayload, NoPayload, PastMemory, RsidLoad, RsidInit, FreePages, MusShort, MusPastMemory, VoiceLength, VoicesPastFile, TextLines, BytesAfterText, UnassignedPair, ValueRange, HltMisplaced, Structure, HedZero, TooDeep, TooLong, MemorySize, VoiceNumber, ListLengths, NoPair, NoSuchSong, SapFirstLine, SapLine, SapTags, SapBlock}
+use Rattle.refusals.specs.Numbers.{number_of}
 use Rattle.reasons.specs.Phrases.{phrase_of, table, found, phrase_at}
 use Rattle.fields.specs.Parts.{byte_text}
 
 -- The phrase of a reason's number is the phrase of that reason, as bytes.
 pub phrase_at_lem : (r : Reason) → phrase_at (number_of r) ≡ byte_text (phrase_of r)
-phrase_at_lem too_short = refl
-phrase_at_lem magic = refl
-phrase_at_lem version = refl
-phrase_at_lem data_offset = refl
-phrase_at_lem rsid_reserved = refl
-phrase_at_lem songs = refl
-phrase_at_lem reserved_bits = refl
-phrase_at_lem mus_payload = refl
-phrase_at_lem no_payload = refl
-phrase_at_lem past_memory = refl
-phrase_at_lem rsid_load = refl
-phrase_at_lem rsid_init = refl
-phrase_at_lem free_pages = refl
-phrase_at_lem mus_short = refl
-phrase_at_lem mus_past_memory = refl
-phrase_at_lem voice_length = refl
-phrase_at_lem voices_past_file = refl
-phrase_at_lem text_lines = refl
-phrase_at_lem bytes_after_text = refl
-phrase_at_lem unassigned_pair = refl
-phrase_at_lem value_range = refl
-phrase_at_lem hlt_misplaced = refl
-phrase_at_lem structure = refl
-phrase_at_lem hed_zero = refl
-phrase_at_lem too_deep = refl
-phrase_at_lem too_long = refl
-phrase_at_lem memory_size = refl
-phrase_at_lem voice_number = refl
-phrase_at_lem list_lengths = refl
-phrase_at_lem no_pair = refl
-phrase_at_lem no_such_song = refl
-phrase_at_lem sap_first_line = refl
-phrase_at_lem sap_line = refl
-phrase_at_lem sap_tags = refl
-phrase_at_lem sap_block = refl
+phrase_at_lem TooShort = refl
+phrase_at_lem Magic = refl
+phrase_at_lem Version = refl
+phrase_at_lem DataOffset = refl
+phrase_at_lem RsidReserved = refl
+phrase_at_lem Songs = refl
+phrase_at_lem ReservedBits = refl
+phrase_at_lem MusPayload = refl
+phrase_at_lem NoPayload = refl
+phrase_at_lem PastMemory = refl
+phrase_at_lem RsidLoad = refl
+phrase_at_lem RsidInit = refl
+phrase_at_lem FreePages = refl
+phrase_at_lem MusShort = refl
+phrase_at_lem MusPastMemory = refl
+phrase_at_lem VoiceLength = refl
+phrase_at_lem VoicesPastFile = refl
+phrase_at_lem TextLines = refl
+phrase_at_lem BytesAfterText = refl
+phrase_at_lem UnassignedPair = refl
+phrase_at_lem ValueRange = refl
+phrase_at_lem HltMisplaced = refl
+phrase_at_lem Structure = refl
+phrase_at_lem HedZero = refl
+phrase_at_lem TooDeep = refl
+phrase_at_lem TooLong = refl
+phrase_at_lem MemorySize = refl
+phrase_at_lem VoiceNumber = refl
+phrase_at_lem ListLengths = refl
+phrase_at_lem NoPair = refl
+phrase_at_lem NoSuchSong = refl
+phrase_at_lem SapFirstLine = refl
+phrase_at_lem SapLine = refl
+phrase_at_lem SapTags = refl
+phrase_at_lem SapBlock = refl
 
 abbrev pub has_row : List Reason → ℕ → Bool
 has_row [] n = false

@@ -1,3 +1,3 @@
 pub mod Numbers
-pub mod Tests
 pub mod Laws
+pub mod Tests

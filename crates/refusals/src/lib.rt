@@ -1,123 +1,171 @@
-// What a refused call answers: the numbers of document 01's table 'What comes back' and of document 02's
-// requests by name, a refusal with its place, and the verdict of tests made in order.
+// What a refused call answers: the reasons of the table 'What comes back' and of the requests by name, a
+// refusal with its place, and the verdict of tests made in order.
 #![tactic(auto)]
 
 ghost use Rattle.std.specs.Prelude.{◌≡◌};
-ghost use Rattle.refusals.specs.Numbers.{unplaced};
-ghost use Rattle.refusals.specs.Tests.{tested};
+ghost use Rattle.refusals.specs.Numbers.{number_of, numbered, reason_numbered, unplaced};
+ghost use Rattle.refusals.specs.Tests.{first_of};
 
-// PSID and RSID
-pub const TOO_SHORT: u32 = 1;
+use std::fmt;
 
-pub const MAGIC: u32 = 2;
+// Why a call refuses. Each reason has the paper's number.
+#[derive(Clone, Copy, Debug, PartialEq, Eq)]
+pub enum Reason {
+    // PSID and RSID
+    TooShort = 1,
+    Magic = 2,
+    Version = 3,
+    DataOffset = 4,
+    RsidReserved = 5,
+    Songs = 6,
+    ReservedBits = 7,
+    MusPayload = 8,
+    NoPayload = 9,
+    PastMemory = 10,
+    RsidLoad = 11,
+    RsidInit = 12,
+    FreePages = 13,
+    // A MUS container
+    MusShort = 21,
+    MusPastMemory = 22,
+    VoiceLength = 23,
+    VoicesPastFile = 24,
+    TextLines = 25,
+    BytesAfterText = 26,
+    // A MUS voice; the first two also answer for a pair by itself
+    UnassignedPair = 27,
+    ValueRange = 28,
+    HltMisplaced = 29,
+    Structure = 30,
+    HedZero = 31,
+    TooDeep = 32,
+    TooLong = 33,
+    // What a caller hands in
+    MemorySize = 40,
+    VoiceNumber = 41,
+    ListLengths = 42,
+    NoPair = 43,
+    NoSuchSong = 44,
+    // A SAP file
+    SapFirstLine = 51,
+    SapLine = 52,
+    SapTags = 53,
+    SapBlock = 54,
+}
 
-pub const VERSION: u32 = 3;
+impl Reason {
+    // internal: the paper's number.
+    pub fn number(self) -> u32
+        ensures { result ≡ number_of self }
+    {
+        self as u32
+    }
+}
 
-pub const DATA_OFFSET: u32 = 4;
+// Every reason, in the order of the numbers.
+const REASONS: [Reason; 35] = [
+    Reason::TooShort,
+    Reason::Magic,
+    Reason::Version,
+    Reason::DataOffset,
+    Reason::RsidReserved,
+    Reason::Songs,
+    Reason::ReservedBits,
+    Reason::MusPayload,
+    Reason::NoPayload,
+    Reason::PastMemory,
+    Reason::RsidLoad,
+    Reason::RsidInit,
+    Reason::FreePages,
+    Reason::MusShort,
+    Reason::MusPastMemory,
+    Reason::VoiceLength,
+    Reason::VoicesPastFile,
+    Reason::TextLines,
+    Reason::BytesAfterText,
+    Reason::UnassignedPair,
+    Reason::ValueRange,
+    Reason::HltMisplaced,
+    Reason::Structure,
+    Reason::HedZero,
+    Reason::TooDeep,
+    Reason::TooLong,
+    Reason::MemorySize,
+    Reason::VoiceNumber,
+    Reason::ListLengths,
+    Reason::NoPair,
+    Reason::NoSuchSong,
+    Reason::SapFirstLine,
+    Reason::SapLine,
+    Reason::SapTags,
+    Reason::SapBlock,
+];
 
-pub const RSID_RESERVED: u32 = 5;
+// A number that the table does not have.
+#[derive(Clone, Copy, Debug, PartialEq, Eq)]
+pub struct UnknownNumber(pub u32);
 
-pub const SONGS: u32 = 6;
+// The first of a list of reasons that has a number.
+fn reason_in(reasons: &[Reason], number: u32) -> Result<Reason, UnknownNumber>
+    ensures { result ≡ numbered reasons.now number }
+{
+    for &reason in reasons {
+        if reason.number() == number {
+            return Ok(reason);
+        }
+    }
+    Err(UnknownNumber(number))
+}
 
-pub const RESERVED_BITS: u32 = 7;
+// The reason that has a number.
+impl TryFrom<u32> for Reason {
+    type Error = UnknownNumber;
 
-pub const MUS_PAYLOAD: u32 = 8;
+    ghost try_from_gives = { λ number answer. answer ≡ reason_numbered number };
 
-pub const NO_PAYLOAD: u32 = 9;
+    fn try_from(number: u32) -> Result<Reason, UnknownNumber> {
+        reason_in(&REASONS, number)
+    }
+}
 
-pub const PAST_MEMORY: u32 = 10;
-
-pub const RSID_LOAD: u32 = 11;
-
-pub const RSID_INIT: u32 = 12;
-
-pub const FREE_PAGES: u32 = 13;
-
-// A MUS container
-pub const MUS_SHORT: u32 = 21;
-
-pub const MUS_PAST_MEMORY: u32 = 22;
-
-pub const VOICE_LENGTH: u32 = 23;
-
-pub const VOICES_PAST_FILE: u32 = 24;
-
-pub const TEXT_LINES: u32 = 25;
-
-pub const BYTES_AFTER_TEXT: u32 = 26;
-
-// A MUS voice; the first two also answer for a pair by itself
-pub const UNASSIGNED_PAIR: u32 = 27;
-
-pub const VALUE_RANGE: u32 = 28;
-
-pub const HLT_MISPLACED: u32 = 29;
-
-pub const STRUCTURE: u32 = 30;
-
-pub const HED_ZERO: u32 = 31;
-
-pub const TOO_DEEP: u32 = 32;
-
-pub const TOO_LONG: u32 = 33;
-
-// What a caller hands in
-pub const MEMORY_SIZE: u32 = 40;
-
-pub const VOICE_NUMBER: u32 = 41;
-
-pub const LIST_LENGTHS: u32 = 42;
-
-pub const NO_PAIR: u32 = 43;
-
-pub const NO_SUCH_SONG: u32 = 44;
-
-// A SAP file
-pub const SAP_FIRST_LINE: u32 = 51;
-
-pub const SAP_LINE: u32 = 52;
-
-pub const SAP_TAGS: u32 = 53;
-
-pub const SAP_BLOCK: u32 = 54;
-
-// A refusal: the paper's number, and the place in the file, 0 where the paper gives none.
-#[derive(Clone, Copy)]
+// A refusal: why, and the place in the file, 0 where the paper gives none.
+#[derive(Clone, Copy, Debug, PartialEq, Eq)]
 pub struct Refusal {
-    pub number: u32,
+    pub reason: Reason,
     pub place: usize,
 }
 
-impl Refusal {
-    // internal: a refusal with no place of its own.
-    pub fn unplaced(number: u32) -> Refusal
-        ensures { result ≡ unplaced number }
-    {
-        Refusal { number, place: 0 }
+// A refusal with no place of its own.
+impl From<Reason> for Refusal {
+    ghost from_gives = { λ reason refusal. refusal ≡ unplaced reason };
+
+    fn from(reason: Reason) -> Refusal {
+        Refusal { reason, place: 0 }
     }
 }
 
-// The verdict of tests made in order: none has applied, or the number of the first that did.
-#[derive(Clone, Copy)]
-pub enum Verdict {
-    Passed,
-    Failed(u32),
+// The number and the place.
+impl fmt::Display for Refusal {
+    fn fmt<W: fmt::Write>(&self, f: &mut fmt::Formatter<W>) -> fmt::Result {
+        write!(f, "{} {}", self.reason.number(), self.place)
+    }
 }
 
-impl Verdict {
-    // internal: the verdict after one more test.
-    pub fn test(self, applies: bool, number: u32) -> Verdict
-        ensures { result ≡ tested self applies number }
-    {
-        match self {
-            Verdict::Failed(n) => Verdict::Failed(n),
-            Verdict::Passed => {
-                if applies {
-                    Verdict::Failed(number)
-                } else {
-                    Verdict::Passed
-                }
-            }
+// A reason beside the condition under which it applies.
+#[derive(Clone, Copy, Debug)]
+pub struct Test {
+    pub reason: Reason,
+    pub applies: bool,
+}
+
+// internal: the verdict of tests made in order: none applies, or the reason of the first that does.
+pub fn first_of(tests: &[Test]) -> Result<(), Reason>
+    ensures { result ≡ first_of tests.now }
+{
+    for test in tests {
+        if test.applies {
+            return Err(test.reason);
         }
     }
+    Ok(())
 }

@@ -3,91 +3,64 @@
 #![tactic(auto)]
 
 ghost use Rattle.std.specs.Prelude.{◌≡◌};
-ghost use Rattle.saptext.specs.Reading.{state_of};
+ghost use Rattle.refusals.specs.Numbers.{outcome_of};
 ghost use Rattle.sap.specs.FirstLine.{first_line};
-ghost use Rattle.sap.specs.Answers.{outcome_of_sap, sap_outcome, moment_for, outcome_of_tested, tested_outcome};
+ghost use Rattle.sap.specs.Answers.{sap_outcome, moment_for, tested_outcome};
 
-use refusals::Refusal;
-use sapblocks::{Walked, Wanted};
+use refusals::{Reason, Refusal};
+use sapblocks::Block;
 use sapheader::Header;
+use saptags::Tag;
+use saptext::Stated;
 
-// The answer to a file.
+// What a file that passes its tests is answered with: its header, what TIME states for the song, if it does,
+// and the block asked for, if there is one. time is 2 × milliseconds, plus 1 where LOOP follows.
 #[derive(Clone, Copy)]
-pub enum Reading {
-    Accepted(Header),
-    Refused(Refusal),
-}
-
-// What TIME states for a song: nothing, or 2 × milliseconds, plus 1 where LOOP follows.
-#[derive(Clone, Copy)]
-pub enum Moment {
-    Unstated,
-    Lasts(u32),
-}
-
-// The answer of a file's tests: its header, the time of the song and the block asked for, or the first
-// refusal that applies.
-#[derive(Clone, Copy)]
-pub enum Tested {
-    Passed(Header, Moment, Wanted),
-    Refused(Refusal),
+pub struct Tested {
+    pub header: Header,
+    pub time: Option<u32>,
+    pub block: Option<Block>,
 }
 
 // internal: whether a file begins with the line SAP.
 pub fn begins(file: &[u8]) -> bool
     ensures { result ≡ first_line file.now }
 {
-    let s = fields::byte_at(file, 0);
-    let a = fields::byte_at(file, 1);
-    let p = fields::byte_at(file, 2);
-    let cr = fields::byte_at(file, 3);
-    let lf = fields::byte_at(file, 4);
-    (s == 0x53) & (a == 0x41) & (p == 0x50) & (cr == 0x0D) & (lf == 0x0A)
+    file.starts_with(b"SAP\r\n")
 }
 
-fn moment_for(place: usize, value: u32) -> Moment
-    ensures { result ≡ moment_for (state_of place value) }
+// What a line of TIME states.
+fn moment_for(stated: Option<Stated>) -> Option<u32>
+    ensures { result ≡ moment_for stated }
 {
-    if place == 0 {
-        Moment::Unstated
-    } else {
-        Moment::Lasts(value)
-    }
+    stated.map(|s| s.value)
 }
 
 // internal: tests a file, and answers what its header, the TIME of a song and a block are made of.
-pub fn test(file: &[u8], song: u64, block: u64) -> Tested
-    ensures { outcome_of_tested result ≡ tested_outcome file.now song block }
+pub fn test(file: &[u8], song: u64, block: u64) -> Result<Tested, Refusal>
+    ensures { outcome_of result ≡ tested_outcome file.now song block }
 {
     if !begins(file) {
-        return Tested::Refused(Refusal::unplaced(refusals::SAP_FIRST_LINE));
+        return Err(Reason::SapFirstLine.into());
     }
-    let x = saptext::read_lines(file, song);
-    let end = x.end;
-    if !x.ended {
-        return Tested::Refused(Refusal::unplaced(refusals::SAP_LINE));
+    let lines = saptext::read_lines(file, song).ok_or(Reason::SapLine)?;
+    if saprules::is_against(&lines) {
+        return Err(Reason::SapTags.into());
     }
-    if saprules::is_against(x) {
-        return Tested::Refused(Refusal::unplaced(refusals::SAP_TAGS));
-    }
-    match sapblocks::walk(file, end, block) {
-        Walked::Spoilt => Tested::Refused(Refusal::unplaced(refusals::SAP_BLOCK)),
-        Walked::Counted(count, wanted) => {
-            let header = sapheader::header_of(x, count);
-            let places = x.places;
-            let values = x.values;
-            let time = moment_for(places[saptags::TIME], values[saptags::TIME]);
-            Tested::Passed(header, time, wanted)
-        }
-    }
+    let walked = sapblocks::walk(file, lines.end, block).ok_or(Reason::SapBlock)?;
+    let header = sapheader::header_of(&lines, walked.count);
+    let time = moment_for(lines.stated(Tag::Time));
+    Ok(Tested {
+        header,
+        time,
+        block: walked.wanted,
+    })
 }
 
 // Reads a file: its header, or the first refusal that applies.
-pub fn read(file: &[u8]) -> Reading
-    ensures { outcome_of_sap result ≡ sap_outcome file.now }
+pub fn read(file: &[u8]) -> Result<Header, Refusal>
+    ensures { outcome_of result ≡ sap_outcome file.now }
 {
-    match test(file, 0, 0) {
-        Tested::Refused(x) => Reading::Refused(x),
-        Tested::Passed(h, _, _) => Reading::Accepted(h),
-    }
+    let tested = test(file, 0, 0)?;
+    Ok(tested.header)
 }

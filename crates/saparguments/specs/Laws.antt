@@ -1,30 +1,40 @@
 -- Laws of arguments, of each kind.
 -- Stops      an argument is the same in a line as in its file, where 0D follows the line
 -- Within     an argument that fits lies within the bytes
+-- good-once, none-good   an argument that fits is known by its length and its value; it is one
 -- good_if, begins-long, digits-within   what a test shows, and how many bytes there are
 -- decimal_stop .. text_stop, decimal-within .. text-within   so for each kind
 -- AtMost     the value of an argument is at most a number
 -- decimal-most .. text-most   so for each kind; decimal-least, letter_type   what else is known of two
-use Rattle.std.specs.Prelude.{ℕ, ◌+◌, ◌^◌, ◌<◌, ◌≤◌, ◌≡◌, refl, Bool, true, false, cond, ◌&&◌, List, [], ◌∷◌, ◌++◌, length, get_or, drop, leb, eqb}
-use Rattle.std.proofs.Common.{subst, arith, length-drop, leb-true, eqb-true}
+use Rattle.std.specs.Prelude.{Option, None, ℕ, ◌+◌, ◌^◌, ◌<◌, ◌≤◌, ◌≡◌, refl, Bool, true, false, cond, ◌&&◌, List, [], ◌∷◌, ◌++◌, length, get_or, drop, leb, eqb}
+use Rattle.std.proofs.Common.{ap, subst, arith, length-drop, leb-true, eqb-true}
 use Rattle.logic.specs.Cases.{cases}
 use Rattle.logic.specs.Truth.{both}
 use Rattle.characters.specs.Characters.{is_text_character, leading, rest, begins, digits_of}
 use Rattle.characters.specs.Laws.{leading_length, leading_stop, rest_stop, begins_stop, digits_stop, digits-below}
 use Rattle.saparguments.specs.declared.Argument.{Argument}
-use Rattle.saparguments.specs.declared.Argument.TheVariants.{Bad, Good}
-use Rattle.saparguments.specs.Arguments.{unpadded, decimal_at, address_at, covox_at, is_type, letter_at, text_at}
+use Rattle.saparguments.specs.Arguments.{good, unpadded, decimal_at, address_at, covox_at, is_type, letter_at, text_at}
 
-abbrev pub Stops : (List ℕ → Argument) → Type 0
+abbrev pub Stops : (List ℕ → Option Argument) → Type 0
 Stops k = (t a : List ℕ) → k (a ++ 0x0D ∷ t) ≡ k a
 
-abbrev pub Within : (List ℕ → Argument) → Type 0
-Within k = (s : List ℕ) (n v : ℕ) → k s ≡ Good n v → n ≤ length s
+abbrev pub Within : (List ℕ → Option Argument) → Type 0
+Within k = (s : List ℕ) (n v : ℕ) → k s ≡ good n v → n ≤ length s
+
+-- An argument that fits is known by its length and its value.
+pub good-once : (n v m w : ℕ) → good n v ≡ good m w → (n ≡ m) × (v ≡ w)
+good-once n v m w e =
+    let same : ◌≡◌ {A = Argument} (record { len = n; value = v }) (record { len = m; value = w }) = cc in
+    (ap (λ (a : Argument). a.len) same, ap (λ (a : Argument). a.value) same)
+
+-- An argument that fits is one.
+pub none-good : {A : Type 0} (n v : ℕ) → None ≡ good n v → A
+none-good n v e = absurd (let z : ◌≡◌ {A = ℕ} 0 1 = cc in omega arith)
 
 -- What an argument that a test lets pass shows.
-pub good_if : (b : Bool) (n v m w : ℕ) → cond b (Good n v) Bad ≡ Good m w → (b ≡ true) × (n ≡ m) × (v ≡ w)
-good_if true n v m w e = let len : n ≡ m = cc in let value : v ≡ w = cc in (refl, len, value)
-good_if false n v m w e = absurd (let z : ◌≡◌ {A = ℕ} 0 1 = cc in omega arith)
+pub good_if : (b : Bool) (n v m w : ℕ) → cond b (good n v) None ≡ good m w → (b ≡ true) × (n ≡ m) × (v ≡ w)
+good_if true n v m w e = let same = good-once n v m w e in (refl, same.0, same.1)
+good_if false n v m w e = none-good m w e
 
 -- Bytes that begin with a byte other than 0 are not empty.
 pub begins-long : (b : ℕ) (s : List ℕ) → 0 < b → begins b s ≡ true → 0 < length s
@@ -71,7 +81,7 @@ letter_stop t (b ∷ bs) = refl
 
 -- A type's letter lies within the bytes.
 pub letter_within : Within letter_at
-letter_within [] n v e = absurd (let z : ◌≡◌ {A = ℕ} 0 1 = cc in omega arith)
+letter_within [] n v e = none-good n v e
 letter_within (b ∷ bs) n v e = omega (arith, (good_if (is_type b) 1 b n v e).1)
 
 -- A text stops where its line does.
@@ -95,8 +105,8 @@ text-within s n v e =
       length-drop 1 s,
     )
 
-abbrev pub AtMost : ℕ → (List ℕ → Argument) → Type 0
-AtMost most k = (s : List ℕ) (n v : ℕ) → k s ≡ Good n v → v ≤ most
+abbrev pub AtMost : ℕ → (List ℕ → Option Argument) → Type 0
+AtMost most k = (s : List ℕ) (n v : ℕ) → k s ≡ good n v → v ≤ most
 
 -- A decimal number is at most its greatest.
 pub decimal-most : (low high : ℕ) → AtMost high (decimal_at low high)
@@ -106,7 +116,7 @@ decimal-most low high s n v e =
     omega (arith, g.2, leb-true d.value high (both (unpadded d s && leb low d.value) (leb d.value high) g.0).1)
 
 -- A decimal number is at least its least.
-pub decimal-least : (low high : ℕ) (s : List ℕ) (n v : ℕ) → decimal_at low high s ≡ Good n v → low ≤ v
+pub decimal-least : (low high : ℕ) (s : List ℕ) (n v : ℕ) → decimal_at low high s ≡ good n v → low ≤ v
 decimal-least low high s n v e =
     let d = digits_of 10 s in
     let g = good_if (unpadded d s && leb low d.value && leb d.value high) d.len d.value n v e in
@@ -128,7 +138,7 @@ covox_most s n v e =
     omega (arith, g.2, eqb-true d.value 0xD600 (both (eqb d.len 4) (eqb d.value 0xD600) g.0).1)
 
 -- A type's letter is one of five.
-pub letter_type : (s : List ℕ) (n v : ℕ) → letter_at s ≡ Good n v → is_type v ≡ true
+pub letter_type : (s : List ℕ) (n v : ℕ) → letter_at s ≡ good n v → is_type v ≡ true
 letter_type s n v e = let g = good_if (is_type (get_or s 0 0)) 1 (get_or s 0 0) n v e in subst (λ (b : ℕ). is_type b ≡ true) g.2 g.0
 
 -- A text has at most 120 characters.

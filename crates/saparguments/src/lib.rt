@@ -1,82 +1,88 @@
-// The arguments of a SAP header's tags, each at a place of lent bytes. Each is found in one pass.
+// The arguments of a SAP header's tags, each at the front of lent bytes. Each is found in one pass.
 #![tactic(auto)]
 
-ghost use Rattle.std.specs.Prelude.{◌≡◌, ◌+◌, ◌<◌, ◌^◌, drop};
+ghost use Rattle.std.specs.Prelude.{◌≡◌};
 ghost use Rattle.saparguments.specs.Arguments.{decimal_at, address_at, covox_at, letter_at, text_at};
 
-// What stands at a place as an argument: nothing that fits, or its length in bytes and its value.
-#[derive(Clone, Copy)]
-pub enum Argument {
-    Bad,
-    Good(usize, u32),
+// An argument that fits: its length in bytes and its value.
+#[derive(Clone, Copy, Debug, PartialEq, Eq)]
+pub struct Argument {
+    pub len: usize,
+    pub value: u32,
 }
 
 // internal: a decimal number within bounds, without leading zeros.
-pub fn decimal_at(file: &[u8], at: usize, low: u32, high: u32) -> Argument
-    ensures { result ≡ decimal_at low high (drop at file.now) }
+pub fn decimal_at(bytes: &[u8], low: u32, high: u32) -> Option<Argument>
+    ensures { result ≡ decimal_at low high bytes.now }
 {
-    let d = characters::digits_at(file, at, 10);
-    let len = d.len;
-    let value = d.value;
-    let first = fields::byte_at(file, at);
+    let digits = characters::digits_of(bytes, 10);
+    let len = digits.len;
+    let value = digits.value;
+    let first = fields::byte_at(bytes, 0);
     if ((len == 1) | (1 < len) & !(first == 0x30)) & (low <= value) & (value <= high) {
-        Argument::Good(len, value)
+        Some(Argument { len, value })
     } else {
-        Argument::Bad
+        None
     }
 }
 
 // internal: an address of four hex digits.
-pub fn address_at(file: &[u8], at: usize) -> Argument
-    ensures { result ≡ address_at (drop at file.now) }
+pub fn address_at(bytes: &[u8]) -> Option<Argument>
+    ensures { result ≡ address_at bytes.now }
 {
-    let d = characters::digits_at(file, at, 16);
-    let len = d.len;
-    let value = d.value;
+    let digits = characters::digits_of(bytes, 16);
+    let len = digits.len;
+    let value = digits.value;
     if len == 4 {
-        Argument::Good(len, value)
+        Some(Argument { len, value })
     } else {
-        Argument::Bad
+        None
     }
 }
 
 // internal: the one address that COVOX can have.
-pub fn covox_at(file: &[u8], at: usize) -> Argument
-    ensures { result ≡ covox_at (drop at file.now) }
+pub fn covox_at(bytes: &[u8]) -> Option<Argument>
+    ensures { result ≡ covox_at bytes.now }
 {
-    let d = characters::digits_at(file, at, 16);
-    let len = d.len;
-    let value = d.value;
+    let digits = characters::digits_of(bytes, 16);
+    let len = digits.len;
+    let value = digits.value;
     if (len == 4) & (value == 0xD600) {
-        Argument::Good(len, value)
+        Some(Argument { len, value })
     } else {
-        Argument::Bad
+        None
     }
 }
 
 // internal: the letter of a type: B, C, D, S or R.
-pub fn letter_at(file: &[u8], at: usize) -> Argument
-    ensures { result ≡ letter_at (drop at file.now) }
+pub fn letter_at(bytes: &[u8]) -> Option<Argument>
+    ensures { result ≡ letter_at bytes.now }
 {
-    let b = fields::byte_at(file, at);
-    if (b == 0x42) | (b == 0x43) | (b == 0x44) | (b == 0x53) | (b == 0x52) {
-        Argument::Good(1, b as u32)
+    let b = fields::byte_at(bytes, 0);
+    if (b == b'B') | (b == b'C') | (b == b'D') | (b == b'S') | (b == b'R') {
+        Some(Argument {
+            len: 1,
+            value: b as u32,
+        })
     } else {
-        Argument::Bad
+        None
     }
 }
 
 // internal: a text in quotes.
-pub fn text_at(file: &[u8], at: usize) -> Argument
-    requires { at < 2 ^ 63 }
-    ensures { result ≡ text_at (drop at file.now) }
+pub fn text_at(bytes: &[u8]) -> Option<Argument>
+    ensures { result ≡ text_at bytes.now }
 {
-    let open = fields::byte_at(file, at);
-    let n = characters::text_length(file, at + 1);
-    let close = fields::byte_at(file, at + 1 + n);
-    if (open == 0x22) & (close == 0x22) & (n <= 120) {
-        Argument::Good(n + 2, n as u32)
+    let open = fields::byte_at(bytes, 0);
+    let body = characters::after(bytes, 1);
+    let n = characters::text_length(body);
+    let close = fields::byte_at(body, n);
+    if (open == b'"') & (close == b'"') & (n <= 120) {
+        Some(Argument {
+            len: n + 2,
+            value: n as u32,
+        })
     } else {
-        Argument::Bad
+        None
     }
 }

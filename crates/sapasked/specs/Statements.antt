@@ -3,8 +3,7 @@
 -- AskedAnswers   so for each call, of every file; proofs/Laws.antt proves it
 use Rattle.std.specs.Prelude.{ℕ, ◌<◌, ◌≡◌, Bool, List, length}
 use Rattle.refusals.specs.Numbers.Outcome.{accepted}
-use Rattle.sapparts.specs.Asked.{time_outcome, block_outcome}
-use Rattle.sapparts.specs.Asked.Lasting.{lasts}
+use Rattle.sapparts.specs.Asked.{lasts, time_outcome, block_outcome}
 use Rattle.answers.specs.Apart.{Apart}
 use Rattle.sapasked.specs.Lists.{time_number, block_numbers}
 

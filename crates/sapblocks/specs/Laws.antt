@@ -5,6 +5,9 @@
 -- going_on         the blocks from an offset on, by what stands there
 -- blocks-ended    at the file's end there are no more, and none may be missing
 -- blocks-found    before it, they are what stands there and the blocks after it
+-- blocks-either   before it, it makes no difference whether a block must follow
+-- blocks-standing   where a block must follow the blocks are so at the file's end too
+-- found-there     where something stands, it is before the file's end
 -- Known           what is known of what stands at an offset
 -- found-known     so of what is found there
 -- blocks-through  what each step keeps holds of the blocks of a file
@@ -19,7 +22,7 @@
 -- whole-listed    blocks that are whole are those listed
 -- walked-spoilt, walked-counted   what the answer to a walk says of the blocks
 use Prim.Native.Nat.{ℕ, zero, suc, ◌+◌, ◌<◌, ◌≤◌}
-use Rattle.std.specs.Prelude.{◌≡◌, Bool, cond, ◌||◌, get_or}
+use Rattle.std.specs.Prelude.{Option, Some, None, ◌≡◌, Bool, cond, ◌||◌, get_or}
 use Rattle.std.proofs.Math.Path.{refl, ap}
 use Rattle.std.proofs.Common.{sym, ◌∙◌, arith, drop_of_length-le}
 use Rattle.std.proofs.Math.Bool.{true, false}
@@ -27,16 +30,14 @@ use mathlib.Core.List.{List, [], ◌∷◌}
 use Rattle.std.proofs.Math.ListN.{length, drop, length-drop}
 use Rattle.std.proofs.Math.Seq.{drop-drop, get_or-drop}
 use Rattle.std.proofs.Math.Dec.{ltb}
-use borrow.Author.Tests.{ltb-false}
+use borrow.Author.Tests.{ltb-true, ltb-false}
 use Rattle.logic.specs.Cases.{cases}
 use Rattle.logic.specs.Truth.{neither}
 use Rattle.fields.specs.Numbers.{le16}
 use Rattle.sapblocks.specs.declared.Block.{Block}
 use Rattle.sapblocks.specs.declared.Found.{Found}
-use Rattle.sapblocks.specs.declared.Found.TheVariants.{Bad, Marker, Whole}
-use Rattle.sapblocks.specs.declared.Wanted.{Wanted}
-use Rattle.sapblocks.specs.declared.Wanted.TheVariants.{Missing, At}
-use Rattle.sapblocks.specs.declared.Walked.TheVariants.{Spoilt, Counted}
+use Rattle.sapblocks.specs.declared.Found.TheVariants.{Marker, Whole}
+use Rattle.sapblocks.specs.declared.Walked.{Walked}
 use Rattle.sapblocks.specs.Blocks.{marker, start_in, end_in, size_of, touches, bad_block, block_at, Blocks, with_block, blocks_from, blocks_in, are_whole, listed}
 use Rattle.sapblocks.specs.Blocks.Blocks.{bad, whole}
 use Rattle.sapblocks.specs.Answers.{found_at, numbered, walked_in}
@@ -53,10 +54,10 @@ skip_drop (suc k) must at (b ∷ bs) =
 abbrev pub blocks_on : List ℕ → Bool → ℕ → Blocks
 blocks_on f must at = blocks_from 0 must at (drop at f)
 
-abbrev pub going_on : List ℕ → Found → Blocks
-going_on f Bad = bad
-going_on f (Marker next) = blocks_on f true next
-going_on f (Whole b next) = with_block b (blocks_on f false next)
+abbrev pub going_on : List ℕ → Option Found → Blocks
+going_on f None = bad
+going_on f (Some (Marker next)) = blocks_on f true next
+going_on f (Some (Whole b next)) = with_block b (blocks_on f false next)
 
 -- the front of bytes, of which there is one at least
 front : (must : Bool) (at : ℕ) (s : List ℕ) → 0 < length s
@@ -87,13 +88,35 @@ module _ (f : List ℕ) (at : ℕ) where
       ∙ cases (marker s) (λ m. rw m (further true 1 (at + 2) (omega arith)))
       (λ m. rw m (cases (bad_block s) (λ e. rw e) (λ e. rw e (ap (with_block (block_at at s)) (further false (3 + size) (at + 4 + size) (omega arith))))))
 
-  abbrev pub Known : Found → Type 0
-  Known Bad = Unit
-  Known (Marker next) = next ≡ at + 2
-  Known (Whole b next) = (bad_block (drop at f) ≡ false) × (b ≡ block_at at (drop at f)) × (next ≡ at + 4 + size_of b.start b.end)
+  -- Before the file's end it makes no difference whether a block must follow.
+  pub blocks-either : (must other : Bool) → at < length f → blocks_on f must at ≡ blocks_on f other at
+  blocks-either must other h = blocks-found must h ∙ sym (blocks-found other h)
+
+  -- At the file's end nothing stands.
+  found-ended : length f ≤ at → found_at f at ≡ None
+  unfolding found_at
+  found-ended h = rw (drop_of_length-le f h)
+
+  -- Where a block must follow the blocks are what stands there and the blocks after it, at the file's end
+  -- too.
+  pub blocks-standing : blocks_on f true at ≡ going_on f (found_at f at)
+  blocks-standing =
+      cases (ltb at (length f)) (λ h. blocks-found true (ltb-true at (length f) h))
+      (λ h. let past = ltb-false at (length f) h in rw (found-ended past) (blocks-ended true past))
+
+  -- What stands at an offset stands before the file's end.
+  pub found-there : (x : Found) → Some x ≡ found_at f at → at < length f
+  found-there x e =
+      cases (ltb at (length f)) (ltb-true at (length f))
+      (λ h. absurd (let none : ◌≡◌ {A = Option Found} (Some x) None = e ∙ found-ended (ltb-false at (length f) h) in let z : ◌≡◌ {A = ℕ} 0 1 = cc in omega arith))
+
+  abbrev pub Known : Option Found → Type 0
+  Known None = Unit
+  Known (Some (Marker next)) = next ≡ at + 2
+  Known (Some (Whole b next)) = (bad_block (drop at f) ≡ false) × (b ≡ block_at at (drop at f)) × (next ≡ at + 4 + size_of b.start b.end)
 
   -- Of what is found at an offset: where it ends, and of a block that it is not bad and which it is.
-  pub found-known : (z : Found) → z ≡ found_at f at → Known z
+  pub found-known : (z : Option Found) → z ≡ found_at f at → Known z
   unfolding found_at
   found-known z e =
       let s = drop at f in
@@ -134,13 +157,13 @@ blocks-some f at bs e =
     blocks-through f (λ must bs. must ≡ true → 0 < length bs) (λ t. let z : ◌≡◌ {A = ℕ} 0 1 = cc in omega arith) (λ must bs p t. p refl) (λ must at bs b p t. omega arith) true at bs e refl
 
 -- There is no block of a number past the last.
-pub numbered-past : (bs : List Block) (n : ℕ) → length bs ≤ n → numbered bs n ≡ Missing
+pub numbered-past : (bs : List Block) (n : ℕ) → length bs ≤ n → numbered bs n ≡ None
 numbered-past [] n h = refl
 numbered-past (b ∷ bs) zero h = absurd (omega arith)
 numbered-past (b ∷ bs) (suc n) h = numbered-past bs n (omega arith)
 
 -- Of each number below how many there are there is a block, the one at that place of the list.
-pub numbered-there : (bs : List Block) (n : ℕ) (d : Block) → n < length bs → numbered bs n ≡ At (get_or bs n d)
+pub numbered-there : (bs : List Block) (n : ℕ) (d : Block) → n < length bs → numbered bs n ≡ Some (get_or bs n d)
 numbered-there [] n d h = absurd (omega arith)
 numbered-there (b ∷ bs) zero d h = refl
 numbered-there (b ∷ bs) (suc n) d h = numbered-there bs n d (omega arith)
@@ -180,8 +203,8 @@ module _ (f : List ℕ) (bytes : Bytes f) where
       }
 
   -- A block that is found at an offset is good.
-  pub found-good : (at : ℕ) (b : Block) (next : ℕ) → Whole b next ≡ found_at f at → GoodBlock f b
-  found-good at b next e = let k = found-known f at (Whole b next) e in rw k.1 (good_at at k.0)
+  pub found-good : (at : ℕ) (b : Block) (next : ℕ) → Some (Whole b next) ≡ found_at f at → GoodBlock f b
+  found-good at b next e = let k = found-known f at (Some (Whole b next)) e in rw k.1 (good_at at k.0)
 
   -- Where the blocks of a file are whole each of them is good.
   pub blocks-good : (at : ℕ) (bs : List Block) → blocks_in f at ≡ whole bs → GoodBlocks f bs
@@ -190,7 +213,7 @@ module _ (f : List ℕ) (bytes : Bytes f) where
       blocks-through f (λ must bs. GoodBlocks f bs) tt (λ must bs p. p) (λ must at bs e p. (good_at at e, p)) true at bs
 
 -- Where each block is good, so is the one of each number.
-pub good-numbered : (f : List ℕ) (bs : List Block) (n : ℕ) (b : Block) → GoodBlocks f bs → At b ≡ numbered bs n → GoodBlock f b
+pub good-numbered : (f : List ℕ) (bs : List Block) (n : ℕ) (b : Block) → GoodBlocks f bs → Some b ≡ numbered bs n → GoodBlock f b
 good-numbered f [] n b g e = absurd (let z : ◌≡◌ {A = ℕ} 0 1 = cc in omega arith)
 good-numbered f (x ∷ bs) zero b g e = let same : b ≡ x = cc in rw same g.0
 good-numbered f (x ∷ bs) (suc n) b g e = good-numbered f bs n b g.1 e
@@ -200,12 +223,12 @@ pub whole-listed : (x : Blocks) → are_whole x ≡ true → x ≡ whole (listed
 whole-listed bad e = absurd (let z : ◌≡◌ {A = ℕ} 0 1 = cc in omega arith)
 whole-listed (whole bs) e = refl
 
--- Where a walk comes back with Spoilt the blocks are not whole.
-pub walked-spoilt : (x : Blocks) (n : ℕ) → Spoilt ≡ walked_in x n → are_whole x ≡ false
+-- Where a walk finds nothing the blocks are not whole.
+pub walked-spoilt : (x : Blocks) (n : ℕ) → None ≡ walked_in x n → are_whole x ≡ false
 walked-spoilt bad n e = refl
 walked-spoilt (whole bs) n e = cc
 
 -- Where a walk counts blocks they are whole, and it gives how many are listed and the one of the number.
-pub walked-counted : (x : Blocks) (n count : ℕ) (w : Wanted) → Counted count w ≡ walked_in x n → (are_whole x ≡ true) × (count ≡ length (listed x)) × (w ≡ numbered (listed x) n)
-walked-counted bad n count w e = absurd (let z : ◌≡◌ {A = ℕ} 0 1 = cc in omega arith)
-walked-counted (whole bs) n count w e = (refl, (cc), (cc))
+pub walked-counted : (x : Blocks) (n : ℕ) (w : Walked) → Some w ≡ walked_in x n → (are_whole x ≡ true) × (w.count ≡ length (listed x)) × (w.wanted ≡ numbered (listed x) n)
+walked-counted bad n w e = absurd (let z : ◌≡◌ {A = ℕ} 0 1 = cc in omega arith)
+walked-counted (whole bs) n w e = (refl, (cc), (cc))

@@ -1,9 +1,11 @@
 -- The list of a header's numbers, made of the numbers of its parts. Assumes nothing.
 -- numbers_with      the list, of the parts' numbers
+-- stated_flag      whether FASTPLAY is stated, as a number
 -- numbers-listed   it is the header's where they are those of its parts
 use Prim.Native.Nat.{ℕ}
 use mathlib.Core.Path.{◌≡◌}
 use mathlib.Core.List.{List, [], ◌∷◌}
+use Rattle.std.specs.Prelude.{Option, Some, None, Bool, is_some}
 use lib.ListN.{get_or}
 use Rattle.sapheader.specs.declared.Header.{Header}
 use Rattle.sapcalls.specs.Lists.{narrowed, flag_number, stated_number, kind_numbers, text_numbers, sap_numbers}
@@ -32,6 +34,10 @@ numbers_with h kind stated by called made times blocks first =
     ∷ blocks
     ∷ first
     ∷ []
+
+pub stated_flag : (o : Option ℕ) (b : Bool) → b ≡ is_some o → flag_number b ≡ stated_number o
+stated_flag None b e = rw e
+stated_flag (Some value) b e = rw e
 
 pub numbers-listed : (h : Header) {kind by called made : List ℕ} {stated times blocks first : ℕ}
     → kind ≡ kind_numbers h.player → stated ≡ stated_number h.stated

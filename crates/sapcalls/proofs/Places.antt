@@ -5,7 +5,7 @@ use mathlib.Core.Bool.{not}
 use mathlib.Core.List.{List, [], ◌∷◌}
 use lib.Dec.{eqb}
 use Rattle.refusals.specs.Numbers.Outcome.{accepted}
-use Rattle.refusals.specs.Numbers.Reason.{memory_size}
+use Rattle.refusals.specs.declared.Reason.TheVariants.{MemorySize}
 use Rattle.refusals.specs.Tests.{test}
 use Rattle.sap.specs.Answers.{sap_tests, header_in, sap_outcome}
 use Rattle.sapload.specs.Loading.{sap_load_outcome}
@@ -17,4 +17,4 @@ sap-low f = tests_low (sap_tests f) (accepted (header_in f)) tt
 
 pub load_low : (f : List ℕ) (cells : ℕ) → LowPlace (sap_load_outcome f cells)
 unfolding sap_load_outcome
-load_low f cells = tests_low (test memory_size (not (eqb cells 65536)) ∷ []) (sap_outcome f) (sap-low f)
+load_low f cells = tests_low (test MemorySize (not (eqb cells 65536)) ∷ []) (sap_outcome f) (sap-low f)

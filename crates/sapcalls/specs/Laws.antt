@@ -2,17 +2,16 @@
 -- 'A text can be empty: then its length is 0, and its offset is not.'
 -- TextsTold    the offset of each text of a header is 0 only where the text is absent
 -- texts_told   so for each accepted file
-use Rattle.std.specs.Prelude.{ℕ, ◌≡◌, refl, List}
+use Rattle.std.specs.Prelude.{Option, Some, None, ℕ, ◌≡◌, refl, List}
 use Rattle.std.proofs.Common.{subst, arith, eq-eqb}
 use Rattle.refusals.specs.Numbers.Outcome.{accepted}
 use Rattle.saptags.specs.declared.Tag.{Tag}
 use Rattle.saptags.specs.declared.Tag.TheVariants as tag
 use Rattle.saptext.specs.Text.{StoredLine, text_in}
-use Rattle.saptext.specs.Stated.{Stated, stated}
-use Rattle.saptext.specs.Stated.Stated.{absent, given}
+use Rattle.saptext.specs.declared.Stated.{Stated}
+use Rattle.saptext.specs.Stated.{stated}
 use Rattle.saptext.specs.Reading.{place_of, value_of, state_of}
 use Rattle.saptext.specs.Laws.{nth_restated}
-use Rattle.sapheader.specs.declared.TextPlace.TheVariants.{Absent}
 use Rattle.sapheader.specs.declared.Header.{Header}
 use Rattle.sapheader.specs.Header.{text_for, header_for}
 use Rattle.sap.specs.Answers.{lines_in, header_in, sap_outcome}
@@ -20,19 +19,19 @@ use Rattle.sap.specs.Acceptance.{accepted-header}
 use Rattle.sapcalls.specs.Lists.{offset_number}
 
 pub record TextsTold (h : Header) : Type 0 where
-  pub author : offset_number h.author ≡ 0 → h.author ≡ Absent
-  pub name : offset_number h.name ≡ 0 → h.name ≡ Absent
-  pub date : offset_number h.date ≡ 0 → h.date ≡ Absent
+  pub author : offset_number h.author ≡ 0 → h.author ≡ None
+  pub name : offset_number h.name ≡ 0 → h.name ≡ None
+  pub date : offset_number h.date ≡ 0 → h.date ≡ None
 
 -- a text that is there stands after its tag's name
-text-told : (t : Tag) (ls : List StoredLine) → offset_number (text_for (stated t ls)) ≡ 0 → text_for (stated t ls) ≡ Absent
+text-told : (t : Tag) (ls : List StoredLine) → offset_number (text_for (stated t ls)) ≡ 0 → text_for (stated t ls) ≡ None
 text-told t ls = go (stated t ls) (nth_restated t 0 ls)
   where
-    go : (s : Stated) → state_of (place_of s) (value_of s) ≡ s → offset_number (text_for s) ≡ 0 → text_for s ≡ Absent
-    go absent r e = refl
-    go (given place value) r e =
-        let first : place ≡ 0 = omega (arith, e) in
-        let none = rw (eq-eqb place 0 first) at r in
+    go : (s : Option Stated) → state_of (place_of s) (value_of s) ≡ s → offset_number (text_for s) ≡ 0 → text_for s ≡ None
+    go None r e = refl
+    go (Some s) r e =
+        let first : s.place ≡ 0 = omega (arith, e) in
+        let none = rw (eq-eqb s.place 0 first) at r in
         absurd (let z : ◌≡◌ {A = ℕ} 0 1 = cc in omega arith)
 
 -- Of an accepted file the offset of the author, the name or the date is 0 only where there is no such tag: an

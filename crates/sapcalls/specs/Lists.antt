@@ -9,13 +9,8 @@
 -- offset_number, length_number, text_numbers   the offset and the length of a text; '0 and 0 where there is
 --                            no such tag'
 -- sap_numbers                 the header's fields in their order
-use Rattle.std.specs.Prelude.{ℕ, min, Bool, true, false, List, [], ◌∷◌}
-use Rattle.sapheader.specs.declared.TextPlace.{TextPlace}
-use Rattle.sapheader.specs.declared.TextPlace.TheVariants as text
-use Rattle.sapheader.specs.declared.Rate.{Rate}
-use Rattle.sapheader.specs.declared.Rate.TheVariants as rate
-use Rattle.sapheader.specs.declared.Routine.{Routine}
-use Rattle.sapheader.specs.declared.Routine.TheVariants as routine
+use Rattle.std.specs.Prelude.{Option, Some, None, ℕ, min, Bool, true, false, List, [], ◌∷◌}
+use Rattle.fields.specs.declared.Span.{Span}
 use Rattle.sapheader.specs.declared.Player.{Player}
 use Rattle.sapheader.specs.declared.Player.TheVariants.{B, C, D, S}
 use Rattle.sapheader.specs.declared.Header.{Header}
@@ -27,9 +22,9 @@ abbrev pub flag_number : Bool → ℕ
 flag_number false = 0
 flag_number true = 1
 
-abbrev pub stated_number : Rate → ℕ
-stated_number rate.Unstated = 0
-stated_number (rate.Stated value) = 1
+abbrev pub stated_number : Option ℕ → ℕ
+stated_number None = 0
+stated_number (Some value) = 1
 
 abbrev pub letter_number : Player → ℕ
 letter_number (B a) = 0x42
@@ -50,13 +45,13 @@ music_number (D a) = 0
 music_number (S a) = 0
 
 -- the player routine that type D may have
-abbrev pub routine_number : Routine → ℕ
-routine_number routine.Missing = 0
-routine_number (routine.At address) = address
+abbrev pub routine_number : Option ℕ → ℕ
+routine_number None = 0
+routine_number (Some address) = address
 
-abbrev pub has_routine : Routine → ℕ
-has_routine routine.Missing = 0
-has_routine (routine.At address) = 1
+abbrev pub has_routine : Option ℕ → ℕ
+has_routine None = 0
+has_routine (Some address) = 1
 
 abbrev pub player_number : Player → ℕ
 player_number (B a) = a.player
@@ -73,15 +68,15 @@ has_player (S a) = 0
 abbrev pub kind_numbers : Player → List ℕ
 kind_numbers p = letter_number p ∷ init_number p ∷ music_number p ∷ player_number p ∷ has_player p ∷ []
 
-abbrev pub offset_number : TextPlace → ℕ
-offset_number text.Absent = 0
-offset_number (text.At s) = narrowed s.from
+abbrev pub offset_number : Option Span → ℕ
+offset_number None = 0
+offset_number (Some s) = narrowed s.from
 
-abbrev pub length_number : TextPlace → ℕ
-length_number text.Absent = 0
-length_number (text.At s) = narrowed s.len
+abbrev pub length_number : Option Span → ℕ
+length_number None = 0
+length_number (Some s) = narrowed s.len
 
-abbrev pub text_numbers : TextPlace → List ℕ
+abbrev pub text_numbers : Option Span → List ℕ
 text_numbers t = offset_number t ∷ length_number t ∷ []
 
 abbrev pub sap_numbers : Header → List ℕ

@@ -8,8 +8,6 @@ ghost use Rattle.sapload.specs.Loading.{sap_load_outcome, sap_memory_after};
 ghost use Rattle.answers.specs.Answers.{packed, no_value, list_after};
 ghost use Rattle.sapcalls.specs.Lists.{sap_numbers};
 
-use sap::Reading;
-
 pub mod numbers;
 
 // internal: the body of tt_sap_read.
@@ -17,8 +15,8 @@ pub fn read(file: &[u8]) -> u64
     ensures { result ≡ packed no_value (sap_outcome file.now) }
 {
     match sap::read(file) {
-        Reading::Refused(x) => answers::refused(x),
-        Reading::Accepted(_) => 0,
+        Err(x) => answers::refused(x.reason.number(), x.place),
+        Ok(_) => 0,
     }
 }
 
@@ -28,8 +26,8 @@ pub fn fields(file: &[u8], out: &mut [u32]) -> u64
     ensures cells { out.new ≡ list_after sap_numbers (sap_outcome file.now) out.old }
 {
     match sap::read(file) {
-        Reading::Refused(x) => answers::refused(x),
-        Reading::Accepted(h) => {
+        Err(x) => answers::refused(x.reason.number(), x.place),
+        Ok(h) => {
             let list = numbers::sap_numbers(h);
             answers::fill(&list, out);
             21
@@ -43,7 +41,7 @@ pub fn load(file: &[u8], memory: &mut [u8]) -> u64
     ensures cells { memory.new ≡ sap_memory_after file.now memory.old }
 {
     match sapload::load(file, memory) {
-        Reading::Refused(x) => answers::refused(x),
-        Reading::Accepted(_) => 0,
+        Err(x) => answers::refused(x.reason.number(), x.place),
+        Ok(_) => 0,
     }
 }

@@ -1,52 +1,46 @@
 -- Document 02 (i) and source 002: what an accepted file says of itself, by what its tags state.
--- text_for                AUTHOR, NAME, DATE: where the text lies, 'without its quotes'
--- rate_for, holds         FASTPLAY as stated, and as it holds: '312 scanlines for PAL', '262 for NTSC', and
---                        for type S 'the default .. is 78'
--- routine_for, player_with, player_for   'each kind of player holds the addresses that kind needs'; PLAYER is
---                 'free for D, read and dropped for S'
--- header_for              the header
-use Rattle.std.specs.Prelude.{ℕ, Bool, cond}
+-- text_for           AUTHOR, NAME, DATE: where the text lies, 'without its quotes'
+-- number_for         FASTPLAY and the addresses as stated
+-- usual_rate, holds  FASTPLAY as it holds: '312 scanlines for PAL', '262 for NTSC', and for type S 'the
+--                    default .. is 78'
+-- player_with, player_for   'each kind of player holds the addresses that kind needs'; PLAYER is 'free for D,
+--                    read and dropped for S'
+-- header_for         the header
+use Rattle.std.specs.Prelude.{Option, Some, None, ℕ, Bool, cond}
+use Rattle.std.specs.Option.{unwrap_or}
+use Rattle.fields.specs.declared.Span.{Span}
 use Rattle.saptags.specs.declared.Tag.{Tag}
 use Rattle.saptags.specs.declared.Tag.TheVariants as tag
-use Rattle.saptext.specs.Stated.{Stated}
-use Rattle.saptext.specs.Stated.Stated.{absent, given}
-use Rattle.sapheader.specs.declared.TextPlace.{TextPlace}
-use Rattle.sapheader.specs.declared.TextPlace.TheVariants as text
-use Rattle.sapheader.specs.declared.Rate.{Rate}
-use Rattle.sapheader.specs.declared.Rate.TheVariants as rate
-use Rattle.sapheader.specs.declared.Routine.{Routine}
-use Rattle.sapheader.specs.declared.Routine.TheVariants as routine
+use Rattle.saptext.specs.declared.Stated.{Stated}
 use Rattle.sapheader.specs.declared.Player.{Player}
 use Rattle.sapheader.specs.declared.Player.TheVariants as player
 use Rattle.sapheader.specs.declared.Header.{Header}
 use Rattle.saprules.specs.Against.{is_stated, value_or, is_b, is_c, is_d, is_s, songs_of, default_of, letter_of}
 
-abbrev pub text_for : Stated → TextPlace
-text_for absent = text.Absent
-text_for (given place value) = text.At (record { from = place; len = value })
+abbrev pub text_for : Option Stated → Option Span
+text_for None = None
+text_for (Some s) = Some (record { from = s.place; len = s.value })
 
-abbrev pub rate_for : Stated → Rate
-rate_for absent = rate.Unstated
-rate_for (given place value) = rate.Stated value
+abbrev pub number_for : Option Stated → Option ℕ
+number_for None = None
+number_for (Some s) = Some s.value
 
-abbrev pub holds : ℕ → Bool → Stated → ℕ
-holds letter ntsc fastplay = value_or (cond (is_s letter) 78 (cond ntsc 262 312)) fastplay
+abbrev pub usual_rate : ℕ → Bool → ℕ
+usual_rate letter ntsc = cond (is_s letter) 78 (cond ntsc 262 312)
 
-abbrev pub routine_for : Stated → Routine
-routine_for absent = routine.Missing
-routine_for (given place value) = routine.At value
+abbrev pub holds : ℕ → Bool → Option Stated → ℕ
+holds letter ntsc fastplay = value_or (usual_rate letter ntsc) fastplay
 
-abbrev pub player_with : ℕ → ℕ → ℕ → ℕ → Routine → Player
-player_with letter init music play optional =
-    cond (is_b letter) (player.B (record { init = init; player = play }))
-    (cond (is_c letter) (player.C (record { music = music; player = play }))
-    (cond (is_d letter) (player.D (record { init = init; player = optional })) (player.S (record { init = init }))))
+abbrev pub player_with : ℕ → ℕ → ℕ → Option ℕ → Player
+player_with letter init music play =
+    cond (is_b letter) (player.B (record { init = init; player = unwrap_or play 0 }))
+    (cond (is_c letter) (player.C (record { music = music; player = unwrap_or play 0 }))
+    (cond (is_d letter) (player.D (record { init = init; player = play })) (player.S (record { init = init }))))
 
-abbrev pub player_for : (Tag → Stated) → Player
-player_for g =
-    player_with (letter_of g) (value_or 0 (g tag.Init)) (value_or 0 (g tag.Music)) (value_or 0 (g tag.Player)) (routine_for (g tag.Player))
+abbrev pub player_for : (Tag → Option Stated) → Player
+player_for g = player_with (letter_of g) (value_or 0 (g tag.Init)) (value_or 0 (g tag.Music)) (number_for (g tag.Player))
 
-unfoldable pub header_for : (Tag → Stated) → ℕ → ℕ → ℕ → Header
+unfoldable pub header_for : (Tag → Option Stated) → ℕ → ℕ → ℕ → Header
 header_for g times blocks first =
     record {
       player = player_for g;
@@ -55,7 +49,7 @@ header_for g times blocks first =
       stereo = is_stated (g tag.Stereo);
       ntsc = is_stated (g tag.Ntsc);
       covox = is_stated (g tag.Covox);
-      stated = rate_for (g tag.FastPlay);
+      stated = number_for (g tag.FastPlay);
       fastplay = holds (letter_of g) (is_stated (g tag.Ntsc)) (g tag.FastPlay);
       author = text_for (g tag.Author);
       name = text_for (g tag.Name);

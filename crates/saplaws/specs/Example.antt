@@ -3,7 +3,7 @@
 -- example-lines     its lines, where each begins, and where FF FF stands
 -- example-header    it is accepted, with this header
 -- example-times     what its three TIME lines state
-use Rattle.std.specs.Prelude.{ℕ, ◌≡◌, refl, false, List, [], ◌∷◌}
+use Rattle.std.specs.Prelude.{Some, None, ℕ, ◌≡◌, refl, false, List, [], ◌∷◌}
 use Prim.Native.String.{String}
 use Rattle.fields.specs.Numbers.{le16}
 use Rattle.refusals.specs.Numbers.Outcome.{accepted}
@@ -14,11 +14,8 @@ use Rattle.saplines.specs.Lines.{argument_after, line_at}
 use Rattle.sapblocks.specs.Blocks.{blocks_from, blocks_in}
 use Rattle.saptext.specs.Text.{StoredLine, cut, text_from, text_in}
 use Rattle.saptext.specs.Text.Text.{ended}
-use Rattle.saptext.specs.Stated.{nth_of, time_of}
-use Rattle.saptext.specs.Stated.Stated.{given}
+use Rattle.saptext.specs.Stated.{given, nth_of, time_of}
 use Rattle.saprules.specs.Against.{type_against, against}
-use Rattle.sapheader.specs.declared.TextPlace.TheVariants as text
-use Rattle.sapheader.specs.declared.Rate.TheVariants as rate
 use Rattle.sapheader.specs.declared.Player.TheVariants as player
 use Rattle.sapheader.specs.Header.{header_for}
 use Rattle.sap.specs.FirstLine.{first_line}
@@ -79,11 +76,11 @@ pub example-header :
       stereo = false;
       ntsc = false;
       covox = false;
-      stated = rate.Unstated;
+      stated = None;
       fastplay = 312;
-      author = text.At (record { from = 13; len = 11 });
-      name = text.At (record { from = 33; len = 6 });
-      date = text.At (record { from = 48; len = 4 });
+      author = Some (record { from = 13; len = 11 });
+      name = Some (record { from = 33; len = 6 });
+      date = Some (record { from = 48; len = 4 });
       times = 3;
       blocks = 2;
       first = 151;

@@ -12,7 +12,7 @@
 -- That the line and the value of each tag are the same stands in proofs/Exchange.antt, that 53 and the header
 -- are in proofs/Header.antt.
 use Prim.Native.Nat.{ℕ, zero, suc, ◌+◌}
-use Rattle.std.specs.Prelude.{◌≡◌, refl, Bool, true, false, ◌&&◌, ◌||◌, length}
+use Rattle.std.specs.Prelude.{Option, Some, None, ◌≡◌, refl, Bool, true, false, ◌&&◌, ◌||◌, length}
 use Rattle.std.proofs.Common.{sym, ◌∙◌, arith}
 use Rattle.std.proofs.Math.Path.{ap}
 use mathlib.Core.List.{List, [], ◌∷◌, ◌++◌}
@@ -22,7 +22,6 @@ use Rattle.saptags.specs.declared.Tag.{Tag}
 use Rattle.saptags.specs.declared.Tag.TheVariants as tag
 use Rattle.saptags.specs.Tags.{tag_at}
 use Rattle.saplines.specs.declared.Line.{Line}
-use Rattle.saplines.specs.declared.Line.TheVariants.{Bad, Good}
 use Rattle.saplines.specs.Lines.{line_at}
 use Rattle.saptext.specs.Text.{StoredLine}
 use Rattle.saptext.specs.Stated.{entry_of, is_bad, is_of, tagged, one_more, count_of, any_bad, once_tags, any_twice, again, bad_lines, stated_by, nth_of}
@@ -84,14 +83,14 @@ swap_or true b c = cases b (λ e. rw e) (λ e. rw e)
 swap_or false b c = refl
 
 -- A line that has no bytes is bad.
-pub entry_none : entry_of [] ≡ Bad
+pub entry_none : entry_of [] ≡ None
 unfolding line_at tag_at stands
 entry_none = refl
 
 -- a line at another place
-line-moved : (from : ℕ) (e : Line) → unplaced (stated_by from e) ≡ unplaced (stated_by 0 e)
-line-moved from Bad = refl
-line-moved from (Good t n v) = refl
+line-moved : (from : ℕ) (e : Option Line) → unplaced (stated_by from e) ≡ unplaced (stated_by 0 e)
+line-moved from None = refl
+line-moved from (Some k) = refl
 
 -- What the line of a tag by its number states is what its bytes say, but for the place.
 pub nth_line : (t : Tag) (n : ℕ) (ls : List StoredLine) → unplaced (nth_of t n ls) ≡ unplaced (stated_by 0 (entry_of (line_of t n ls)))

@@ -5,7 +5,7 @@
 -- line_text        the bytes of a line's text
 -- line-text       a text lies in its line
 -- texts_placed    the bytes of a text in a file are those in its line
-use Rattle.std.specs.Prelude.{ℕ, zero, suc, ◌+◌, ◌≤◌, ◌≡◌, refl, true, cond, ◌&&◌, take, leb, eqb}
+use Rattle.std.specs.Prelude.{Option, Some, None, ℕ, zero, suc, ◌+◌, ◌≤◌, ◌≡◌, refl, true, cond, ◌&&◌, take, leb, eqb}
 use Rattle.std.proofs.Math.Path.{sym, ap}
 use Rattle.std.proofs.Common.{subst, ◌∙◌, length-drop, drop-drop, eqb-true}
 use mathlib.Core.List.{List, [], ◌∷◌, ◌++◌}
@@ -17,19 +17,16 @@ use Rattle.logic.specs.Cases.{cases}
 use Rattle.characters.specs.Characters.{is_text_character, leading, rest, begins}
 use Rattle.saptags.specs.declared.Tag.{Tag}
 use Rattle.saptags.specs.declared.Tag.TheVariants as tag
-use Rattle.saptags.specs.declared.Named.{Named}
-use Rattle.saptags.specs.declared.Named.TheVariants.{Unknown, Known}
 use Rattle.saptags.specs.Tags.{name_of, index_of, tag_at}
 use Rattle.saptags.specs.Laws.{index-once}
 use Rattle.saparguments.specs.declared.Argument.{Argument}
-use Rattle.saparguments.specs.declared.Argument.TheVariants as argument
-use Rattle.saparguments.specs.Arguments.{text_at}
+use Rattle.saparguments.specs.Arguments.{good, text_at}
+use Rattle.saparguments.specs.Laws.{good-once, none-good}
 use Rattle.saplines.specs.declared.Line.{Line}
-use Rattle.saplines.specs.declared.Line.TheVariants.{Bad, Good}
-use Rattle.saplines.specs.Lines.{spaced, argument_after, with_argument, with_tag, line_at}
-use Rattle.saplines.specs.Laws.{line-within}
-use Rattle.saptext.specs.Stated.{whole, entry_of, is_of, Stated, stated_by, nth_of}
-use Rattle.saptext.specs.Stated.Stated.{absent, given}
+use Rattle.saplines.specs.Lines.{good_line, spaced, argument_after, with_argument, with_tag, line_at}
+use Rattle.saplines.specs.Laws.{line-once, none-line, line-within}
+use Rattle.saptext.specs.Stated.{whole, entry_of, is_of, stated_by, nth_of}
+use Rattle.saptext.specs.declared.Stated.{Stated}
 use Rattle.saplaws.specs.Exchange.{placed, line_of, entry_none}
 use Rattle.saplaws.specs.Files.{closed}
 
@@ -38,63 +35,61 @@ pub data OfText : Tag → Type 0 where
   name : OfText tag.Name
   date : OfText tag.Date
 
-abbrev pub text_bytes : List ℕ → Stated → List ℕ
-text_bytes f absent = []
-text_bytes f (given from len) = take len (drop from f)
+abbrev pub text_bytes : List ℕ → Option Stated → List ℕ
+text_bytes f None = []
+text_bytes f (Some s) = take s.value (drop s.place f)
 
 abbrev pub line_text : List ℕ → List ℕ
 line_text l = text_bytes l (stated_by 0 (entry_of l))
 
 -- a space and a text have three bytes more than the text
-spaced-size : (s : List ℕ) (n v : ℕ) → cond (begins 0x20 s) (spaced (text_at (drop 1 s))) argument.Bad ≡ argument.Good n v → n ≡ v + 3
+spaced-size : (s : List ℕ) (n v : ℕ) → cond (begins 0x20 s) (spaced (text_at (drop 1 s))) None ≡ good n v → n ≡ v + 3
 spaced-size s n v e =
-    cases (begins 0x20 s) (λ b. go (rw b at e)) (λ b. absurd (let q = rw b at e in let z : ◌≡◌ {A = ℕ} 0 1 = cc in omega arith))
+    cases (begins 0x20 s) (λ b. go (rw b at e)) (λ b. none-good n v (rw b at e))
   where
-    go : spaced (text_at (drop 1 s)) ≡ argument.Good n v → n ≡ v + 3
+    go : spaced (text_at (drop 1 s)) ≡ good n v → n ≡ v + 3
     go h =
         let k = length (leading is_text_character (drop 1 (drop 1 s))) in
         cases (begins 0x22 (drop 1 s) && begins 0x22 (rest is_text_character (drop 1 (drop 1 s))) && leb k 120)
-        (λ b. let q = rw b at h in let size : k + 2 + 1 ≡ n = cc in let value : k ≡ v = cc in omega arith)
-        (λ b. absurd (let q = rw b at h in let z : ◌≡◌ {A = ℕ} 0 1 = cc in omega arith))
+        (λ b. let same = good-once (k + 2 + 1) k n v (rw b at h) in omega (arith, same.0, same.1))
+        (λ b. none-good n v (rw b at h))
 
-argument-size : (t : Tag) → OfText t → (s : List ℕ) (n v : ℕ) → argument_after t s ≡ argument.Good n v → n ≡ v + 3
+argument-size : (t : Tag) → OfText t → (s : List ℕ) (n v : ℕ) → argument_after t s ≡ good n v → n ≡ v + 3
 unfolding argument_after
 argument-size tag.Author author s n v e = spaced-size s n v e
 argument-size tag.Name name s n v e = spaced-size s n v e
 argument-size tag.Date date s n v e = spaced-size s n v e
 argument-size t o s n v e = elim o [ ]
 
-line-size : (t : Tag) → OfText t → (l : List ℕ) (n v : ℕ) → line_at l ≡ Good t n v → n ≡ length (name_of t) + (v + 3)
+line-size : (t : Tag) → OfText t → (l : List ℕ) (n v : ℕ) → line_at l ≡ good_line t n v → n ≡ length (name_of t) + (v + 3)
 unfolding line_at
 line-size t o l n v e = go (tag_at l) e
   where
-    with_tag_lem : (u : Tag) (a : Argument) → argument_after u (drop (length (name_of u)) l) ≡ a → with_argument u a ≡ Good t n v
+    with_tag_lem : (u : Tag) (a : Option Argument) → argument_after u (drop (length (name_of u)) l) ≡ a → with_argument u a ≡ good_line t n v
         → n ≡ length (name_of t) + (v + 3)
-    with_tag_lem u argument.Bad h r = absurd (let z : ◌≡◌ {A = ℕ} 0 1 = cc in omega arith)
-    with_tag_lem u (argument.Good m w) h r =
-        let same : u ≡ t = cc in
-        let value : w ≡ v = cc in
-        let size : length (name_of u) + m ≡ n = cc in
-        let more = argument-size u (subst OfText (sym same) o) (drop (length (name_of u)) l) m w h in
-        let long : length (name_of u) ≡ length (name_of t) = rw same in
-        omega arith
+    with_tag_lem u None h r = none-line r
+    with_tag_lem u (Some a) h r =
+        let same = line-once r in
+        let more = argument-size u (subst OfText (sym same.0) o) (drop (length (name_of u)) l) a.len a.value h in
+        let long : length (name_of u) ≡ length (name_of t) = rw same.0 in
+        omega (arith, more, long, same.1, same.2)
 
-    go : (x : Named) → with_tag l x ≡ Good t n v → n ≡ length (name_of t) + (v + 3)
-    go Unknown r = absurd (let z : ◌≡◌ {A = ℕ} 0 1 = cc in omega arith)
-    go (Known u) r = with_tag_lem u (argument_after u (drop (length (name_of u)) l)) refl r
+    go : (x : Option Tag) → with_tag l x ≡ good_line t n v → n ≡ length (name_of t) + (v + 3)
+    go None r = none-line r
+    go (Some u) r = with_tag_lem u (argument_after u (drop (length (name_of u)) l)) refl r
 
 -- A text lies in its line, after the tag's name, a space and a quote.
-pub line-text : (t : Tag) → OfText t → (l : List ℕ) (n v : ℕ) → entry_of l ≡ Good t n v → length (name_of t) + 2 + v ≤ length l
+pub line-text : (t : Tag) → OfText t → (l : List ℕ) (n v : ℕ) → entry_of l ≡ good_line t n v → length (name_of t) + 2 + v ≤ length l
 line-text t o l n v e = go (line_at l) refl e
   where
-    go : (x : Line) → line_at l ≡ x → whole (length l) x ≡ Good t n v → length (name_of t) + 2 + v ≤ length l
-    go Bad q r = absurd (let z : ◌≡◌ {A = ℕ} 0 1 = cc in omega arith)
-    go (Good u m w) q r =
-        cases (eqb m (length l))
+    go : (x : Option Line) → line_at l ≡ x → whole (length l) x ≡ good_line t n v → length (name_of t) + 2 + v ≤ length l
+    go None q r = none-line r
+    go (Some m) q r =
+        cases (eqb m.len (length l))
         (λ k.
         let same = q ∙ rw k at r in
         omega (arith, line-size t o l n v same, (line-within l t n v same).1))
-        (λ k. absurd (let s = rw k at r in let z : ◌≡◌ {A = ℕ} 0 1 = cc in omega arith))
+        (λ k. none-line (rw k at r))
 
 module _ (t : Tag) (o : OfText t) (f : List ℕ) where
   -- the bytes of a text in a file and in its line, where the line stands at a place of the file
@@ -102,12 +97,14 @@ module _ (t : Tag) (o : OfText t) (f : List ℕ) where
       → text_bytes f (stated_by at (entry_of l)) ≡ line_text l
   text-placed at l s e = go (entry_of l) refl
     where
-      go : (x : Line) → entry_of l ≡ x → is_of t x ≡ true → text_bytes f (stated_by at x) ≡ text_bytes l (stated_by 0 x)
-      go Bad q h = refl
-      go (Good u n v) q h =
+      go : (x : Option Line) → entry_of l ≡ x → is_of t x ≡ true → text_bytes f (stated_by at x) ≡ text_bytes l (stated_by 0 x)
+      go None q h = refl
+      go (Some k) q h =
+          let u = k.tag in
+          let v = k.value in
           let same = index-once u t (eqb-true (index_of u) (index_of t) h) in
           let skipped = length (name_of u) + 2 in
-          let inside = line-text u (subst OfText (sym same) o) l n v q in
+          let inside = line-text u (subst OfText (sym same) o) l k.len v q in
           let sum : at + length (name_of u) + 2 ≡ at + skipped = omega arith in
           let none : 0 + length (name_of u) + 2 ≡ skipped = omega arith in
           let left : v ≤ length (drop skipped l) = simp length-drop (omega arith) in

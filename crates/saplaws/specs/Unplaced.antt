@@ -4,25 +4,24 @@
 -- alike           what does not look at the place is the same where the same is stated but for the place
 -- against-alike   so 53 is the same
 -- header-alike    so the header is the same but for where texts stand
-use Rattle.std.specs.Prelude.{ℕ, ◌≡◌, refl, cond}
+use Rattle.std.specs.Prelude.{Option, Some, None, ℕ, ◌≡◌, refl, cond}
 use Rattle.std.proofs.Common.{sym, ap, ◌∙◌}
 use Rattle.saptags.specs.declared.Tag.{Tag}
 use Rattle.saptags.specs.declared.Tag.TheVariants as tag
-use Rattle.saptext.specs.Stated.{Stated}
-use Rattle.saptext.specs.Stated.Stated.{absent, given}
+use Rattle.saptext.specs.declared.Stated.{Stated}
+use Rattle.saptext.specs.Stated.{given}
 use Rattle.saprules.specs.Against.{is_stated, value_or, is_s, letter_of, against}
-use Rattle.sapheader.specs.declared.TextPlace.{TextPlace}
-use Rattle.sapheader.specs.declared.TextPlace.TheVariants as text
+use Rattle.fields.specs.declared.Span.{Span}
 use Rattle.sapheader.specs.declared.Header.{Header}
-use Rattle.sapheader.specs.Header.{text_for, rate_for, routine_for, player_with, holds, header_for}
+use Rattle.sapheader.specs.Header.{text_for, number_for, player_with, holds, header_for}
 
-abbrev pub unplaced : Stated → Stated
-unplaced absent = absent
-unplaced (given place value) = given 1 value
+abbrev pub unplaced : Option Stated → Option Stated
+unplaced None = None
+unplaced (Some s) = given 1 s.value
 
-abbrev pub without_place : TextPlace → TextPlace
-without_place text.Absent = text.Absent
-without_place (text.At s) = text.At (record { from = 0; len = s.len })
+abbrev pub without_place : Option Span → Option Span
+without_place None = None
+without_place (Some s) = Some (record { from = 0; len = s.len })
 
 abbrev pub without_places : Header → Header
 without_places h =
@@ -44,16 +43,16 @@ without_places h =
     }
 
 -- What does not look at the place is the same of two that state the same but for the place.
-pub alike : {A : Type 0} (f : Stated → A) → ((place value : ℕ) → f (given place value) ≡ f (given 1 value))
-    → (s r : Stated) → unplaced s ≡ unplaced r → f s ≡ f r
+pub alike : {A : Type 0} (f : Option Stated → A) → ((place value : ℕ) → f (given place value) ≡ f (given 1 value))
+    → (s r : Option Stated) → unplaced s ≡ unplaced r → f s ≡ f r
 alike f h s r e = unplace s ∙ ap f e ∙ sym (unplace r)
   where
-    unplace : (q : Stated) → f q ≡ f (unplaced q)
-    unplace absent = refl
-    unplace (given place value) = h place value
+    unplace : (q : Option Stated) → f q ≡ f (unplaced q)
+    unplace None = refl
+    unplace (Some q) = h q.place q.value
 
 -- tags that state the same but for the places, and as many TIMEs
-module _ (g h : Tag → Stated) (same : (t : Tag) → unplaced (g t) ≡ unplaced (h t)) (m n : ℕ) (times : m ≡ n) where
+module _ (g h : Tag → Option Stated) (same : (t : Tag) → unplaced (g t) ≡ unplaced (h t)) (m n : ℕ) (times : m ≡ n) where
   value-alike : (other : ℕ) (t : Tag) → value_or other (g t) ≡ value_or other (h t)
   value-alike other t = alike (value_or other) (λ p v. refl) (g t) (h t) (same t)
 
@@ -81,14 +80,14 @@ module _ (g h : Tag → Stated) (same : (t : Tag) → unplaced (g t) ≡ unplace
   header-alike blocks first = λ i.
       record {
         player =
-            player_with (value-alike 0 tag.Type i) (value-alike 0 tag.Init i) (value-alike 0 tag.Music i) (value-alike 0 tag.Player i)
-            (alike routine_for (λ p v. refl) (g tag.Player) (h tag.Player) (same tag.Player) i);
+            player_with (value-alike 0 tag.Type i) (value-alike 0 tag.Init i) (value-alike 0 tag.Music i)
+            (alike number_for (λ p v. refl) (g tag.Player) (h tag.Player) (same tag.Player) i);
         songs = value-alike 1 tag.Songs i;
         default = value-alike 0 tag.DefSong i;
         stereo = stated_alike tag.Stereo i;
         ntsc = stated_alike tag.Ntsc i;
         covox = stated_alike tag.Covox i;
-        stated = alike rate_for (λ p v. refl) (g tag.FastPlay) (h tag.FastPlay) (same tag.FastPlay) i;
+        stated = alike number_for (λ p v. refl) (g tag.FastPlay) (h tag.FastPlay) (same tag.FastPlay) i;
         fastplay = rate_alike i;
         author = text-alike tag.Author i;
         name = text-alike tag.Name i;

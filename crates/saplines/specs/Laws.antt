@@ -1,25 +1,34 @@
 -- Laws of lines, of each tag.
+-- line-once, none-line      a line that fits is known by its tag, length and value; it is one
 -- value_stop, argument_stop, line_stop        what stands at the front of a line is the same in its file,
 --                 where 0D follows the line
 -- value-within, argument-within, line-within  what fits lies within the bytes
 -- most_of, value-most, line-most               how great the value of a tag's argument can be
-use Rattle.std.specs.Prelude.{ℕ, ◌+◌, ◌≤◌, ◌≡◌, refl, true, List, [], ◌∷◌, ◌++◌, length, drop}
+use Rattle.std.specs.Prelude.{Option, Some, None, ℕ, ◌+◌, ◌≤◌, ◌≡◌, refl, true, List, [], ◌∷◌, ◌++◌, length, drop}
 use Rattle.std.proofs.Common.{ap, arith, length-drop, lit≤}
 use Rattle.logic.specs.Cases.{cases}
 use Rattle.characters.specs.Characters.{begins, most}
 use Rattle.characters.specs.Laws.{drop_stop}
 use Rattle.saptags.specs.declared.Tag.{Tag}
 use Rattle.saptags.specs.declared.Tag.TheVariants as tag
-use Rattle.saptags.specs.declared.Named.{Named}
-use Rattle.saptags.specs.declared.Named.TheVariants.{Unknown, Known}
 use Rattle.saptags.specs.Tags.{name_of, tag_at}
 use Rattle.saptags.specs.Laws.{tag_stop, tag-stands, name-long}
 use Rattle.saparguments.specs.declared.Argument.{Argument}
-use Rattle.saparguments.specs.declared.Argument.TheVariants.{Bad, Good}
-use Rattle.saparguments.specs.Laws.{Stops, Within, decimal_stop, decimal-within, address_stop, address-within, covox_stop, covox_within, letter_stop, letter_within, text_stop, text-within, AtMost, decimal-most, address-most, covox_most, letter_most, text-most}
+use Rattle.saparguments.specs.Arguments.{good}
+use Rattle.saparguments.specs.Laws.{good-once, none-good, Stops, Within, decimal_stop, decimal-within, address_stop, address-within, covox_stop, covox_within, letter_stop, letter_within, text_stop, text-within, AtMost, decimal-most, address-most, covox_most, letter_most, text-most}
 use Rattle.saptimes.specs.Laws.{time_stop, time-within, time-most}
-use Rattle.saplines.specs.declared.Line.TheVariants as line
-use Rattle.saplines.specs.Lines.{value_at, alone, spaced, argument_after, with_argument, with_tag, line_at}
+use Rattle.saplines.specs.declared.Line.{Line}
+use Rattle.saplines.specs.Lines.{good_line, value_at, alone, spaced, argument_after, with_argument, with_tag, line_at}
+
+-- A line that fits is known by its tag, its length and its value.
+pub line-once : {t u : Tag} {n v m w : ℕ} → good_line t n v ≡ good_line u m w → (t ≡ u) × (n ≡ m) × (v ≡ w)
+line-once {t} {u} {n} {v} {m} {w} e =
+    let same : ◌≡◌ {A = Line} (record { tag = t; len = n; value = v }) (record { tag = u; len = m; value = w }) = cc in
+    (ap (λ (l : Line). l.tag) same, ap (λ (l : Line). l.len) same, ap (λ (l : Line). l.value) same)
+
+-- A line that fits is one.
+pub none-line : {A : Type 0} {t : Tag} {n v : ℕ} → None ≡ good_line t n v → A
+none-line e = absurd (let z : ◌≡◌ {A = ℕ} 0 1 = cc in omega arith)
 
 -- An argument stops where its line does.
 pub value_stop : (t : Tag) → Stops (value_at t)
@@ -38,10 +47,6 @@ value_stop tag.Player = address_stop
 value_stop tag.Covox = covox_stop
 value_stop tag.Time = time_stop
 
--- what does not fit has no length
-bad-within : (n v : ℕ) → Bad ≡ Good n v → (m : ℕ) → n ≤ m
-bad-within n v e m = absurd (let z : ◌≡◌ {A = ℕ} 0 1 = cc in omega arith)
-
 -- An argument that fits lies within the bytes.
 pub value-within : (t : Tag) → Within (value_at t)
 value-within tag.Author = text-within
@@ -49,8 +54,8 @@ value-within tag.Name = text-within
 value-within tag.Date = text-within
 value-within tag.Songs = decimal-within 1 32
 value-within tag.DefSong = decimal-within 0 most
-value-within tag.Stereo = λ s n v e. bad-within n v e (length s)
-value-within tag.Ntsc = λ s n v e. bad-within n v e (length s)
+value-within tag.Stereo = λ s n v e. none-good n v e
+value-within tag.Ntsc = λ s n v e. none-good n v e
 value-within tag.Type = letter_within
 value-within tag.FastPlay = decimal-within 1 32767
 value-within tag.Init = address-within
@@ -69,44 +74,40 @@ argument_stop t u (b ∷ bs) = rw (value_stop t u bs)
 pub argument-within : (t : Tag) → Within (argument_after t)
 unfolding argument_after
 argument-within t s n v e =
-    cases (alone t) (λ p. let q = rw p at e in let zero : 0 ≡ n = cc in omega arith)
-    (λ p. cases (begins 0x20 s) (λ b. go s b (value_at t (drop 1 s)) refl (rw (p, b) at e)) (λ b. bad-within n v (rw (p, b) at e) (length s)))
+    cases (alone t) (λ p. omega (arith, (good-once 0 1 n v (rw p at e)).0))
+    (λ p. cases (begins 0x20 s) (λ b. go s b (value_at t (drop 1 s)) refl (rw (p, b) at e)) (λ b. none-good n v (rw (p, b) at e)))
   where
-    go : (s : List ℕ) → begins 0x20 s ≡ true → (a : Argument) → value_at t (drop 1 s) ≡ a → spaced a ≡ Good n v → n ≤ length s
-    go s b Bad q r = bad-within n v r (length s)
-    go [] b (Good m w) q r = absurd (let z : ◌≡◌ {A = ℕ} 0 1 = cc in omega arith)
-    go (x ∷ xs) b (Good m w) q r = let is : m + 1 ≡ n = cc in omega (arith, value-within t xs m w q)
+    go : (s : List ℕ) → begins 0x20 s ≡ true → (a : Option Argument) → value_at t (drop 1 s) ≡ a → spaced a ≡ good n v → n ≤ length s
+    go s b None q r = none-good n v r
+    go [] b (Some a) q r = absurd (let z : ◌≡◌ {A = ℕ} 0 1 = cc in omega arith)
+    go (x ∷ xs) b (Some a) q r = omega (arith, (good-once (a.len + 1) a.value n v r).0, value-within t xs a.len a.value q)
 
 -- A line is the same by itself as in its file, where 0D follows it.
 pub line_stop : (u a : List ℕ) → line_at (a ++ 0x0D ∷ u) ≡ line_at a
 unfolding line_at
 line_stop u a = rw (tag_stop u a) (go (tag_at a) refl)
   where
-    go : (k : Named) → tag_at a ≡ k → with_tag (a ++ 0x0D ∷ u) k ≡ with_tag a k
-    go Unknown e = refl
-    go (Known t) e =
+    go : (k : Option Tag) → tag_at a ≡ k → with_tag (a ++ 0x0D ∷ u) k ≡ with_tag a k
+    go None e = refl
+    go (Some t) e =
         rw (drop_stop 0x0D u (length (name_of t)) a (name-long t a (tag-stands t a e)), argument_stop t u (drop (length (name_of t)) a))
 
 -- A line that fits lies within the bytes, and its tag's name within it.
-pub line-within : (s : List ℕ) (t : Tag) (n v : ℕ) → line_at s ≡ line.Good t n v → (length (name_of t) ≤ n) × (n ≤ length s)
+pub line-within : (s : List ℕ) (t : Tag) (n v : ℕ) → line_at s ≡ good_line t n v → (length (name_of t) ≤ n) × (n ≤ length s)
 unfolding line_at
 line-within s t n v e = go (tag_at s) refl e
   where
-    bad : line.Bad ≡ line.Good t n v → ⊥
-    bad q = let z : ◌≡◌ {A = ℕ} 0 1 = cc in omega arith
-
-    argument : (u : Tag) → length (name_of u) ≤ length s → (a : Argument) → argument_after u (drop (length (name_of u)) s) ≡ a → with_argument u a ≡ line.Good t n v
+    argument : (u : Tag) → length (name_of u) ≤ length s → (a : Option Argument) → argument_after u (drop (length (name_of u)) s) ≡ a → with_argument u a ≡ good_line t n v
         → (length (name_of t) ≤ n) × (n ≤ length s)
-    argument u h Bad p q = absurd (bad q)
-    argument u h (Good m w) p q =
-        let tag : u ≡ t = cc in
-        let len : length (name_of u) + m ≡ n = cc in
-        let inside = argument-within u (drop (length (name_of u)) s) m w p in
-        (omega (arith, len, ap (λ (k : Tag). length (name_of k)) tag), omega (arith, len, inside, h, length-drop (length (name_of u)) s))
+    argument u h None p q = none-line q
+    argument u h (Some a) p q =
+        let same = line-once q in
+        let inside = argument-within u (drop (length (name_of u)) s) a.len a.value p in
+        (omega (arith, same.1, ap (λ (k : Tag). length (name_of k)) same.0), omega (arith, same.1, inside, h, length-drop (length (name_of u)) s))
 
-    go : (k : Named) → tag_at s ≡ k → with_tag s k ≡ line.Good t n v → (length (name_of t) ≤ n) × (n ≤ length s)
-    go Unknown p q = absurd (bad q)
-    go (Known u) p q = argument u (name-long u s (tag-stands u s p)) (argument_after u (drop (length (name_of u)) s)) refl q
+    go : (k : Option Tag) → tag_at s ≡ k → with_tag s k ≡ good_line t n v → (length (name_of t) ≤ n) × (n ≤ length s)
+    go None p q = none-line q
+    go (Some u) p q = argument u (name-long u s (tag-stands u s p)) (argument_after u (drop (length (name_of u)) s)) refl q
 
 abbrev pub most_of : Tag → ℕ
 most_of tag.Author = 120
@@ -124,10 +125,6 @@ most_of tag.Player = 0xFFFF
 most_of tag.Covox = 0xD600
 most_of tag.Time = 12079999
 
--- what does not fit has no value
-bad-most : (n v : ℕ) → Bad ≡ Good n v → (m : ℕ) → v ≤ m
-bad-most n v e m = absurd (let z : ◌≡◌ {A = ℕ} 0 1 = cc in omega arith)
-
 -- The value of a tag's argument is at most what the tag allows.
 pub value-most : (t : Tag) → AtMost (most_of t) (value_at t)
 value-most tag.Author = text-most
@@ -135,8 +132,8 @@ value-most tag.Name = text-most
 value-most tag.Date = text-most
 value-most tag.Songs = decimal-most 1 32
 value-most tag.DefSong = decimal-most 0 most
-value-most tag.Stereo = λ s n v e. bad-most n v e 1
-value-most tag.Ntsc = λ s n v e. bad-most n v e 1
+value-most tag.Stereo = λ s n v e. none-good n v e
+value-most tag.Ntsc = λ s n v e. none-good n v e
 value-most tag.Type = letter_most
 value-most tag.FastPlay = decimal-most 1 32767
 value-most tag.Init = address-most
@@ -164,28 +161,24 @@ most-above tag.Time = lit≤ tt
 argument-most : (t : Tag) → AtMost (most_of t) (argument_after t)
 unfolding argument_after
 argument-most t s n v e =
-    cases (alone t) (λ p. let q = rw p at e in let one : 1 ≡ v = cc in omega (arith, one, most-above t))
-    (λ p. cases (begins 0x20 s) (λ b. go (value_at t (drop 1 s)) refl (rw (p, b) at e)) (λ b. bad-most n v (rw (p, b) at e) (most_of t)))
+    cases (alone t) (λ p. omega (arith, (good-once 0 1 n v (rw p at e)).1, most-above t))
+    (λ p. cases (begins 0x20 s) (λ b. go (value_at t (drop 1 s)) refl (rw (p, b) at e)) (λ b. none-good n v (rw (p, b) at e)))
   where
-    go : (a : Argument) → value_at t (drop 1 s) ≡ a → spaced a ≡ Good n v → v ≤ most_of t
-    go Bad q r = bad-most n v r (most_of t)
-    go (Good m w) q r = let is : w ≡ v = cc in omega (arith, value-most t (drop 1 s) m w q)
+    go : (a : Option Argument) → value_at t (drop 1 s) ≡ a → spaced a ≡ good n v → v ≤ most_of t
+    go None q r = none-good n v r
+    go (Some a) q r = omega (arith, (good-once (a.len + 1) a.value n v r).1, value-most t (drop 1 s) a.len a.value q)
 
 -- The value of a line is at most what its tag allows.
-pub line-most : (s : List ℕ) (t : Tag) (n v : ℕ) → line_at s ≡ line.Good t n v → v ≤ most_of t
+pub line-most : (s : List ℕ) (t : Tag) (n v : ℕ) → line_at s ≡ good_line t n v → v ≤ most_of t
 unfolding line_at
 line-most s t n v e = go (tag_at s) e
   where
-    bad : line.Bad ≡ line.Good t n v → ⊥
-    bad q = let z : ◌≡◌ {A = ℕ} 0 1 = cc in omega arith
+    argument : (u : Tag) (a : Option Argument) → argument_after u (drop (length (name_of u)) s) ≡ a → with_argument u a ≡ good_line t n v → v ≤ most_of t
+    argument u None p q = none-line q
+    argument u (Some a) p q =
+        let same = line-once q in
+        omega (arith, same.2, ap most_of same.0, argument-most u (drop (length (name_of u)) s) a.len a.value p)
 
-    argument : (u : Tag) (a : Argument) → argument_after u (drop (length (name_of u)) s) ≡ a → with_argument u a ≡ line.Good t n v → v ≤ most_of t
-    argument u Bad p q = absurd (bad q)
-    argument u (Good m w) p q =
-        let tag : u ≡ t = cc in
-        let value : w ≡ v = cc in
-        omega (arith, value, ap most_of tag, argument-most u (drop (length (name_of u)) s) m w p)
-
-    go : (k : Named) → with_tag s k ≡ line.Good t n v → v ≤ most_of t
-    go Unknown q = absurd (bad q)
-    go (Known u) q = argument u (argument_after u (drop (length (name_of u)) s)) refl q
+    go : (k : Option Tag) → with_tag s k ≡ good_line t n v → v ≤ most_of t
+    go None q = none-line q
+    go (Some u) q = argument u (argument_after u (drop (length (name_of u)) s)) refl q

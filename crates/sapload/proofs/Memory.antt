@@ -6,21 +6,18 @@
 use Rattle.std.specs.Prelude.{ℕ, ◌≡◌, refl, true, false, List, ◌∷◌, ◌++◌, length, get_or, eqb}
 use Rattle.std.proofs.Common.{sym, ◌∙◌}
 use Rattle.std.proofs.Math.Path.{ap}
-use borrow.Author.Tests.{eqb-true, eqb-false, eq-eqb, ne_eqb, not-false}
+use borrow.Author.Tests.{eqb-true, eqb-false}
 use Rattle.logic.specs.Cases.{cases}
 use Rattle.refusals.specs.Numbers.{Outcome}
 use Rattle.refusals.specs.Numbers.Outcome.{accepted, refused}
 use Rattle.sapblocks.specs.declared.Block.{Block}
-use Rattle.sapblocks.specs.Blocks.{are_whole, listed}
-use Rattle.sapblocks.specs.Laws.{Bytes, GoodBlocks, blocks-good, whole-listed}
+use Rattle.sapblocks.specs.Blocks.{listed}
+use Rattle.sapblocks.specs.Laws.{Bytes}
 use Rattle.sapput.specs.Putting.{blocks_put, covers, covered, byte_for}
 use Rattle.sapput.proofs.Put.{length-blocks, put_uncovered, put-later}
-use Rattle.saptext.specs.Text.{text_in}
 use Rattle.sapheader.specs.declared.Header.{Header}
-use Rattle.sapheader.specs.Header.{header_for}
-use Rattle.sap.specs.Answers.{end_in, blocks_after, sap_tests, header_in, sap_outcome}
-use Rattle.sap.specs.Acceptance.{accepted_none, accepted-header}
-use Rattle.sapload.specs.Loading.{sap_load_outcome, sap_memory_with, sap_memory_after}
+use Rattle.sap.specs.Answers.{blocks_after, sap_outcome}
+use Rattle.sapload.specs.Loading.{sap_memory_with, sap_memory_after}
 use Rattle.sapload.specs.Laws.{size-refused, size-read, accepted-good, memory_refused}
 
 module _ (f : List ℕ) (h : Header) (e : sap_outcome f ≡ accepted h) where

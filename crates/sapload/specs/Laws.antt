@@ -6,24 +6,19 @@
 -- accepted-good      each of them is good
 -- memory_refused     a refusal changes no cell
 -- What memory holds after loading stands in proofs/Memory.antt.
-use Rattle.std.specs.Prelude.{ℕ, ◌≡◌, refl, true, false, List, ◌∷◌, ◌++◌, length, get_or, eqb}
-use Rattle.std.proofs.Common.{sym, ◌∙◌}
+use Rattle.std.specs.Prelude.{ℕ, ◌≡◌, true, List, length}
+use Rattle.std.proofs.Common.{sym}
 use Rattle.std.proofs.Math.Path.{ap}
-use borrow.Author.Tests.{eqb-true, eqb-false, eq-eqb, ne_eqb, not-false}
-use Rattle.logic.specs.Cases.{cases}
-use Rattle.refusals.specs.Numbers.{Outcome}
+use borrow.Author.Tests.{eq-eqb, ne_eqb, not-false}
 use Rattle.refusals.specs.Numbers.Outcome.{accepted, refused}
-use Rattle.sapblocks.specs.declared.Block.{Block}
 use Rattle.sapblocks.specs.Blocks.{are_whole, listed}
 use Rattle.sapblocks.specs.Laws.{Bytes, GoodBlocks, blocks-good, whole-listed}
-use Rattle.sapput.specs.Putting.{blocks_put, covers, covered, byte_for}
-use Rattle.sapput.proofs.Put.{length-blocks, put_uncovered, put-later}
 use Rattle.saptext.specs.Text.{text_in}
 use Rattle.sapheader.specs.declared.Header.{Header}
 use Rattle.sapheader.specs.Header.{header_for}
 use Rattle.sap.specs.Answers.{end_in, blocks_after, sap_tests, header_in, sap_outcome}
 use Rattle.sap.specs.Acceptance.{accepted_none, accepted-header}
-use Rattle.sapload.specs.Loading.{sap_load_outcome, sap_memory_with, sap_memory_after}
+use Rattle.sapload.specs.Loading.{sap_load_outcome, sap_memory_after}
 
 -- '40, 41 and 42 are tested before the file': a memory of another size than 65,536 cells is refused with 40,
 -- whatever the file is.

@@ -7,7 +7,7 @@
 use Rattle.std.specs.Prelude.{ℕ, not, List, [], ◌∷◌, length, eqb}
 use Rattle.refusals.specs.Numbers.{Outcome}
 use Rattle.refusals.specs.Numbers.Outcome.{accepted, refused}
-use Rattle.refusals.specs.Numbers.Reason.{memory_size}
+use Rattle.refusals.specs.declared.Reason.TheVariants.{MemorySize}
 use Rattle.refusals.specs.Tests.{test, first_of, guarded}
 use Rattle.sapblocks.specs.Blocks.{listed}
 use Rattle.sapput.specs.Putting.{blocks_put}
@@ -15,7 +15,7 @@ use Rattle.sapheader.specs.declared.Header.{Header}
 use Rattle.sap.specs.Answers.{blocks_after, sap_outcome}
 
 unfoldable pub sap_load_outcome : List ℕ → ℕ → Outcome Header
-sap_load_outcome f cells = guarded (first_of (test memory_size (not (eqb cells 65536)) ∷ [])) (sap_outcome f)
+sap_load_outcome f cells = guarded (first_of (test MemorySize (not (eqb cells 65536)) ∷ [])) (sap_outcome f)
 
 abbrev pub sap_memory_with : Outcome Header → List ℕ → List ℕ → List ℕ
 sap_memory_with (accepted h) f m = blocks_put f (listed (blocks_after f)) m

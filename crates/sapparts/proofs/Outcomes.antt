@@ -6,9 +6,9 @@ use mathlib.Core.Path.{◌≡◌}
 use mathlib.Core.List.{List}
 use borrow.Author.Tests.{le-leb, lt-leb}
 use Rattle.refusals.specs.Numbers.Outcome.{accepted, refused}
-use Rattle.sapblocks.specs.declared.Wanted.{Wanted}
+use Rattle.std.specs.Prelude.{Option}
+use Rattle.sapblocks.specs.declared.Block.{Block}
 use Rattle.sapheader.specs.declared.Header.{Header}
-use Rattle.sap.specs.declared.Moment.{Moment}
 use Rattle.sap.specs.Answers.{passing, tested_outcome}
 use Rattle.sap.specs.Laws.{read-tested, tested-given}
 use Rattle.sapparts.specs.Asked.{lasting, time_outcome, block_outcome}
@@ -22,7 +22,7 @@ module _ (f : List ℕ) (song n number place : ℕ) (e : refused number place �
   unfolding block_outcome
   block_refused = rw (← read-tested f song n (refused number place) e)
 
-module _ (f : List ℕ) (song n : ℕ) (h : Header) (m : Moment) (b : Wanted) (e : accepted (passing h m b) ≡ tested_outcome f song n) where
+module _ (f : List ℕ) (song n : ℕ) (h : Header) (m : Option ℕ) (b : Option Block) (e : accepted (passing h m b) ≡ tested_outcome f song n) where
   pub song_missing : h.songs ≤ song → refused 44 0 ≡ time_outcome f song
   unfolding time_outcome
   song_missing k = rw (← (tested-given f song n h m b e).0, le-leb h.songs song k)

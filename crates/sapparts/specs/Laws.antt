@@ -5,49 +5,29 @@
 --                         below SONGS
 -- block-there             of an accepted file, the block of a number is the one of that number in the file's
 --                         order
-use Rattle.std.specs.Prelude.{ℕ, ◌≤◌, ◌<◌, ◌≡◌, refl, List}
-use Rattle.std.proofs.Common.{sym, ap, arith}
+use Rattle.std.specs.Prelude.{Result, Option, ℕ, ◌≤◌, ◌<◌, ◌≡◌, List}
 use borrow.Author.Tests.{le-leb, lt-leb}
+use Rattle.refusals.specs.declared.Refusal.{Refusal}
+use Rattle.refusals.specs.Numbers.{outcome_of}
 use Rattle.refusals.specs.Numbers.Outcome.{accepted, refused}
-use Rattle.refusals.specs.Laws.{refused-once, two_ways}
+use Rattle.refusals.specs.Laws.{outcome-once}
+use Rattle.sapblocks.specs.declared.Block.{Block}
 use Rattle.sapblocks.specs.Blocks.{listed}
 use Rattle.sapblocks.specs.Answers.{numbered}
 use Rattle.saptext.specs.Text.{text_in}
 use Rattle.saptext.specs.Stated.{time_of}
 use Rattle.sapheader.specs.declared.Header.{Header}
 use Rattle.sap.specs.Answers.{lines_in, blocks_after, moment_for, sap_outcome}
-use Rattle.sapparts.specs.declared.SongTime.{SongTime}
-use Rattle.sapparts.specs.declared.SongTime.TheVariants as time
-use Rattle.sapparts.specs.declared.BlockAnswer.{BlockAnswer}
-use Rattle.sapparts.specs.declared.BlockAnswer.TheVariants as block
-use Rattle.sapparts.specs.Asked.{lasting, time_outcome, outcome_of_time, block_outcome, outcome_of_block}
+use Rattle.sapparts.specs.declared.Duration.{Duration}
+use Rattle.sapparts.specs.Asked.{lasting, time_outcome, block_outcome}
 
 -- No two answers to a song's number have the same outcome.
-pub time-once : (r s : SongTime) → outcome_of_time r ≡ outcome_of_time s → r ≡ s
-time-once time.Unstated time.Unstated e = refl
-time-once time.Unstated (time.Lasts d) e = absurd (let z : ◌≡◌ {A = ℕ} 0 1 = cc in omega arith)
-time-once time.Unstated (time.Refused x) e = absurd (two_ways (sym e))
-time-once (time.Lasts d) time.Unstated e = absurd (let z : ◌≡◌ {A = ℕ} 0 1 = cc in omega arith)
-time-once (time.Lasts d) (time.Lasts k) e =
-    let milliseconds : d.milliseconds ≡ k.milliseconds = cc in
-    let looped : d.looped ≡ k.looped = cc in
-    λ i. time.Lasts (record { milliseconds = milliseconds i; looped = looped i })
-time-once (time.Lasts d) (time.Refused x) e = absurd (two_ways (sym e))
-time-once (time.Refused x) time.Unstated e = absurd (two_ways e)
-time-once (time.Refused x) (time.Lasts d) e = absurd (two_ways e)
-time-once (time.Refused x) (time.Refused y) e = ap time.Refused (refused-once x y e)
+pub time-once : (r s : Result (Option Duration) Refusal) → outcome_of r ≡ outcome_of s → r ≡ s
+time-once = outcome-once
 
 -- No two answers to a block's number have the same outcome.
-pub block-once : (r s : BlockAnswer) → outcome_of_block r ≡ outcome_of_block s → r ≡ s
-block-once block.NoSuchBlock block.NoSuchBlock e = refl
-block-once block.NoSuchBlock (block.Found b) e = absurd (let z : ◌≡◌ {A = ℕ} 0 1 = cc in omega arith)
-block-once block.NoSuchBlock (block.Refused x) e = absurd (two_ways (sym e))
-block-once (block.Found b) block.NoSuchBlock e = absurd (let z : ◌≡◌ {A = ℕ} 0 1 = cc in omega arith)
-block-once (block.Found b) (block.Found k) e = let same : b ≡ k = cc in ap block.Found same
-block-once (block.Found b) (block.Refused x) e = absurd (two_ways (sym e))
-block-once (block.Refused x) block.NoSuchBlock e = absurd (two_ways e)
-block-once (block.Refused x) (block.Found b) e = absurd (two_ways e)
-block-once (block.Refused x) (block.Refused y) e = ap block.Refused (refused-once x y e)
+pub block-once : (r s : Result (Option Block) Refusal) → outcome_of r ≡ outcome_of s → r ≡ s
+block-once = outcome-once
 
 module _ (f : List ℕ) (n : ℕ) where
   -- A file that is refused is refused with its own number, whatever song is asked for.

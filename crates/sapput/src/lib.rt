@@ -15,19 +15,19 @@ pub fn put_blocks(file: &[u8], at: usize, memory: &mut [u8])
     ensures { memory.new ≡ blocks_put file.now (listed (blocks_in file.now at)) memory.old }
 {
     let mut place = at;
-    while place < file.len() {
-        match sapblocks::block_at(file, place) {
-            // there is none: the blocks are whole
-            Found::Bad => return,
+    // block_at answers None at the file's end alone: the blocks are whole
+    while let Some(found) = sapblocks::block_at(file, place) {
+        match found {
             Found::Marker(next) => {
                 place = next;
             }
             Found::Whole(block, next) => {
-                let start = block.start;
-                let end = block.end;
-                let from = block.from;
-                let len = (end - start) as usize + 1;
-                fields::copy_to(fields::part(file, from, len), memory, start as usize);
+                let len = (block.end - block.start) as usize + 1;
+                fields::copy_to(
+                    fields::part(file, block.from, len),
+                    memory,
+                    block.start as usize,
+                );
                 place = next;
             }
         }

@@ -1,30 +1,23 @@
 -- Document 02 (i), 53: 'tags against type (none, R, missing, barred) or against SONGS'. What a tag states is
 -- a place and a value, or that the tag is absent.
--- states_of                  what a tag states, by its cells in the answer of the code that reads the lines
 -- is_stated, value_or         a tag is there; its value, or another one where it is absent
 -- is_b .. is_s, other_than_c    the type's letter
 -- type_against               the tags against the type
 -- songs_of, default_of, letter_of   'SONGS .. absent 1', 'DEFSONG .. Defaults to zero'
 -- songs_against              'DEFSONG counts from zero and is below SONGS', 'TIME at most SONGS times'
 -- against                   either
-use Rattle.std.specs.Prelude.{ℕ, Bool, true, false, not, ◌&&◌, ◌||◌, List, get_or, ltb, leb, eqb}
+use Rattle.std.specs.Prelude.{Option, Some, None, ℕ, Bool, not, ◌&&◌, ◌||◌, ltb, leb, eqb}
+use Rattle.std.specs.Option.{is_some}
 use Rattle.saptags.specs.declared.Tag.{Tag}
 use Rattle.saptags.specs.declared.Tag.TheVariants as tag
-use Rattle.saptags.specs.Tags.{index_of}
-use Rattle.saptext.specs.Stated.{Stated}
-use Rattle.saptext.specs.Stated.Stated.{absent, given}
-use Rattle.saptext.specs.Reading.{state_of}
+use Rattle.saptext.specs.declared.Stated.{Stated}
 
-abbrev pub states_of : List ℕ → List ℕ → Tag → Stated
-states_of places values t = state_of (get_or places (index_of t) 0) (get_or values (index_of t) 0)
+abbrev pub is_stated : Option Stated → Bool
+is_stated = is_some
 
-abbrev pub is_stated : Stated → Bool
-is_stated absent = false
-is_stated (given place value) = true
-
-abbrev pub value_or : ℕ → Stated → ℕ
-value_or other absent = other
-value_or other (given place value) = value
+abbrev pub value_or : ℕ → Option Stated → ℕ
+value_or other None = other
+value_or other (Some s) = s.value
 
 abbrev pub is_b : ℕ → Bool
 is_b letter = eqb letter 0x42
@@ -55,18 +48,18 @@ type_against letter init music player =
     -- 'PLAYER is needed for B and C'
     || (is_b letter || is_c letter) && not player
 
-abbrev pub songs_of : (Tag → Stated) → ℕ
+abbrev pub songs_of : (Tag → Option Stated) → ℕ
 songs_of g = value_or 1 (g tag.Songs)
 
-abbrev pub default_of : (Tag → Stated) → ℕ
+abbrev pub default_of : (Tag → Option Stated) → ℕ
 default_of g = value_or 0 (g tag.DefSong)
 
-abbrev pub letter_of : (Tag → Stated) → ℕ
+abbrev pub letter_of : (Tag → Option Stated) → ℕ
 letter_of g = value_or 0 (g tag.Type)
 
-abbrev pub songs_against : (Tag → Stated) → ℕ → Bool
+abbrev pub songs_against : (Tag → Option Stated) → ℕ → Bool
 songs_against g times = leb (songs_of g) (default_of g) || ltb (songs_of g) times
 
-unfoldable pub against : (Tag → Stated) → ℕ → Bool
+unfoldable pub against : (Tag → Option Stated) → ℕ → Bool
 against g times =
     type_against (letter_of g) (is_stated (g tag.Init)) (is_stated (g tag.Music)) (is_stated (g tag.Player)) || songs_against g times

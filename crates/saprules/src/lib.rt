@@ -2,10 +2,11 @@
 #![tactic(auto)]
 
 ghost use Rattle.std.specs.Prelude.{◌≡◌};
-ghost use Rattle.saptext.specs.Reading.{state_of};
-ghost use Rattle.saprules.specs.Against.{value_or, states_of, type_against, against};
+ghost use Rattle.saptext.specs.Reading.{states_of};
+ghost use Rattle.saprules.specs.Against.{value_or, type_against, against};
 
-use saptext::Lines;
+use saptags::Tag;
+use saptext::{Lines, Stated};
 
 // The tags against the type: its letter, and whether INIT, MUSIC and PLAYER are there.
 fn type_against(letter: u32, init: bool, music: bool, player: bool) -> bool
@@ -18,26 +19,28 @@ fn type_against(letter: u32, init: bool, music: bool, player: bool) -> bool
 }
 
 // internal: a value where its tag is there, else another one.
-pub fn value_or(place: usize, value: u32, other: u32) -> u32
-    ensures { result ≡ value_or other (state_of place value) }
+pub fn value_or(stated: Option<Stated>, other: u32) -> u32
+    ensures { result ≡ value_or other stated }
 {
-    if place == 0 { other } else { value }
+    match stated {
+        Some(stated) => stated.value,
+        None => other,
+    }
 }
 
 // internal: the test of the tags against the type and against SONGS.
-pub fn is_against(x: Lines) -> bool
-    ensures { result ≡ against (states_of x.places x.values) x.times }
+#[tactic(auto, unfolding(crate::specs::Against::against))]
+pub fn is_against(lines: &Lines) -> bool
+    ensures { result ≡ against (states_of lines.now.cells) lines.now.times }
 {
-    let places = x.places;
-    let values = x.values;
-    let letter = value_or(places[saptags::TYPE], values[saptags::TYPE], 0);
-    let songs = value_or(places[saptags::SONGS], values[saptags::SONGS], 1);
-    let first = value_or(places[saptags::DEFSONG], values[saptags::DEFSONG], 0);
+    let letter = value_or(lines.stated(Tag::Type), 0);
+    let songs = value_or(lines.stated(Tag::Songs), 1);
+    let first = value_or(lines.stated(Tag::DefSong), 0);
     let wrong = type_against(
         letter,
-        places[saptags::INIT] != 0,
-        places[saptags::MUSIC] != 0,
-        places[saptags::PLAYER] != 0,
+        lines.stated(Tag::Init).is_some(),
+        lines.stated(Tag::Music).is_some(),
+        lines.stated(Tag::Player).is_some(),
     );
-    wrong | ((songs <= first) | ((songs as usize) < x.times))
+    wrong | ((songs <= first) | ((songs as usize) < lines.times))
 }

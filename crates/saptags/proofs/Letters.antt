@@ -1,19 +1,19 @@
 -- The tag at the front of bytes, by their first letter. Assumes nothing.
 -- beginning   the tags of a list whose names begin with a letter
 -- by_letter   an answer that is right among those is right among all
-use Prim.Native.Nat.{ℕ, ◌+◌}
-use mathlib.Core.Path.{◌≡◌, refl, sym, ap, ◌∙◌}
+-- by_two      the first of two names that stands there
+use Prim.Native.Nat.{ℕ}
+use mathlib.Core.Path.{◌≡◌, refl, sym, ◌∙◌}
 use mathlib.Core.Bool.{Bool, true, false, cond}
 use mathlib.Core.List.{List, [], ◌∷◌}
-use native.Mathlib.Omega.{arith}
-use lib.ListN.{get_or, drop}
-use lib.Seq.{get_or-drop}
+use Rattle.std.specs.Prelude.{Option, None}
+use Rattle.std.specs.Option.{option_or}
+use lib.ListN.{get_or}
 use lib.Dec.{eqb}
 use Rattle.logic.specs.Cases.{cases}
 use Rattle.characters.specs.Characters.{stands}
 use Rattle.saptags.specs.declared.Tag.{Tag}
-use Rattle.saptags.specs.declared.Named.{Named}
-use Rattle.saptags.specs.Tags.{name_of, tags, tag_in, tag_at}
+use Rattle.saptags.specs.Tags.{name_of, tags, named_by, tag_in, tag_at}
 
 -- a word may stand at the front of bytes that begin with a letter
 abbrev may : ℕ → List ℕ → Bool
@@ -34,10 +34,14 @@ in_beginning s [] = refl
 in_beginning s (t ∷ ts) =
     cases (may (get_or s 0 0) (name_of t)) (λ e. rw (e, in_beginning s ts)) (λ e. rw (e, may_not (name_of t) s e, in_beginning s ts))
 
-pub by_letter : {byte : ℕ} {named : Named} (f : List ℕ) (at letter : ℕ) → byte ≡ get_or f at 0 → byte ≡ letter
-    → named ≡ tag_in (beginning letter tags) (drop at f) → named ≡ tag_at (drop at f)
+pub by_letter : {byte : ℕ} {named : Option Tag} (s : List ℕ) (letter : ℕ) → byte ≡ get_or s 0 0 → byte ≡ letter
+    → named ≡ tag_in (beginning letter tags) s → named ≡ tag_at s
 unfolding tag_at
-by_letter f at letter e k found =
-    let here : at + 0 ≡ at = omega arith in
-    let first : get_or (drop at f) 0 0 ≡ letter = get_or-drop at f 0 0 ∙ ap (λ (n : ℕ). get_or f n 0) here ∙ sym e ∙ k in
-    found ∙ rw (← first) (in_beginning (drop at f) tags)
+by_letter s letter e k found =
+    let first : get_or s 0 0 ≡ letter = sym e ∙ k in
+    found ∙ rw (← first) (in_beginning s tags)
+
+-- the tag of a name, and where that does not stand there the tag of another
+pub by_two : {first second both : Option Tag} (name : List ℕ) (t : Tag) (other : List ℕ) (u : Tag) (s : List ℕ) → first ≡ named_by name t s None → second ≡ named_by other u s None
+    → both ≡ option_or first second → both ≡ named_by name t s (named_by other u s None)
+by_two name t other u s e k found = found ∙ rw (e, k) (cases (stands name s) (λ q. rw q) (λ q. rw q))

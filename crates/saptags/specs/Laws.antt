@@ -5,7 +5,7 @@
 -- tag-stands    the name of the tag that is found stands at the front
 -- stands-tag, name-once   a name that stands at the front is that of the tag that is found, and of no other
 -- name-long     a name that stands at the front of bytes is no longer than they are
-use Rattle.std.specs.Prelude.{ℕ, ◌≤◌, ◌<◌, ◌≡◌, refl, Bool, true, false, cond, not, ◌&&◌, ◌||◌, List, [], ◌∷◌, ◌++◌, length, get_or, drop, T, eqb}
+use Rattle.std.specs.Prelude.{Some, ℕ, ◌≤◌, ◌<◌, ◌≡◌, refl, Bool, true, false, cond, not, ◌&&◌, ◌||◌, List, [], ◌∷◌, ◌++◌, length, get_or, drop, T, eqb}
 use Rattle.std.proofs.Common.{sym, ap, ◌∙◌, arith, lit≤, eqb-true}
 use Rattle.std.proofs.lemmas.Bool.{not-true}
 use Rattle.logic.specs.Cases.{cases}
@@ -14,7 +14,6 @@ use Rattle.logic.specs.Every.{every, every_at, true_of}
 use Rattle.characters.specs.Characters.{begins, stands}
 use Rattle.characters.specs.Laws.{Apart, stands_stop, stands-long}
 use Rattle.saptags.specs.declared.Tag.{Tag}
-use Rattle.saptags.specs.declared.Named.TheVariants.{Known}
 use Rattle.saptags.specs.Tags.{name_of, tags, index_of, tag_in, tag_at}
 
 -- the tag of a number
@@ -76,7 +75,7 @@ pub tag_stop : (t a : List ℕ) → tag_at (a ++ 0x0D ∷ t) ≡ tag_at a
 unfolding tag_at
 tag_stop t a = in_stop t a tags
 
-in_stands : (ts : List Tag) (t : Tag) (s : List ℕ) → tag_in ts s ≡ Known t → stands (name_of t) s ≡ true
+in_stands : (ts : List Tag) (t : Tag) (s : List ℕ) → tag_in ts s ≡ Some t → stands (name_of t) s ≡ true
 in_stands [] t s e = let z : ◌≡◌ {A = ℕ} 0 1 = cc in absurd (omega arith)
 in_stands (u ∷ us) t s e =
     cases (stands (name_of u) s)
@@ -84,7 +83,7 @@ in_stands (u ∷ us) t s e =
     (λ h. in_stands us t s (rw h at e))
 
 -- Where a tag is found at the front of bytes, its name stands there.
-pub tag-stands : (t : Tag) (s : List ℕ) → tag_at s ≡ Known t → stands (name_of t) s ≡ true
+pub tag-stands : (t : Tag) (s : List ℕ) → tag_at s ≡ Some t → stands (name_of t) s ≡ true
 unfolding tag_at
 tag-stands t s e = in_stands tags t s e
 
@@ -109,7 +108,7 @@ abbrev tells : Tag → List Tag → Bool
 tells t [] = false
 tells t (u ∷ us) = cond (eqb (index_of t) (index_of u)) true (clash (name_of t) (name_of u) && tells t us)
 
-in_tag : (ts : List Tag) (t : Tag) (s : List ℕ) → tells t ts ≡ true → stands (name_of t) s ≡ true → tag_in ts s ≡ Known t
+in_tag : (ts : List Tag) (t : Tag) (s : List ℕ) → tells t ts ≡ true → stands (name_of t) s ≡ true → tag_in ts s ≡ Some t
 in_tag [] t s e h = let z : ◌≡◌ {A = ℕ} 0 1 = cc in absurd (omega arith)
 in_tag (u ∷ us) t s e h =
     cases (eqb (index_of t) (index_of u))
@@ -119,7 +118,7 @@ in_tag (u ∷ us) t s e h =
     rw (clash-other (name_of t) (name_of u) s b.0 h) (in_tag us t s b.1 h))
 
 -- Where the name of a tag stands at the front of bytes, that tag is found there.
-pub stands-tag : (t : Tag) (s : List ℕ) → stands (name_of t) s ≡ true → tag_at s ≡ Known t
+pub stands-tag : (t : Tag) (s : List ℕ) → stands (name_of t) s ≡ true → tag_at s ≡ Some t
 unfolding tag_at
 stands-tag t s h = in_tag tags t s (each-tag (λ k. tells k tags) tt t) h
 

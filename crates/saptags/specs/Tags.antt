@@ -6,12 +6,10 @@
 -- named_by    a tag where its name stands at the front of bytes, and another answer where it does not
 -- tag_in      the first tag of a list whose name stands at the front of bytes
 -- tag_at      the same of all tags; no name is the beginning of another, so that the order does not count
-use Rattle.std.specs.Prelude.{ℕ, List, [], ◌∷◌, cond}
+use Rattle.std.specs.Prelude.{Option, Some, None, ℕ, List, [], ◌∷◌, cond}
 use Rattle.fields.specs.Parts.{byte_text}
 use Rattle.characters.specs.Characters.{stands}
 use Rattle.saptags.specs.declared.Tag.{Tag}
-use Rattle.saptags.specs.declared.Named.{Named}
-use Rattle.saptags.specs.declared.Named.TheVariants.{Unknown, Known}
 
 abbrev pub name_of : Tag → List ℕ
 name_of Tag.Author = byte_text "AUTHOR"
@@ -63,12 +61,12 @@ index_of Tag.Player = 11
 index_of Tag.Covox = 12
 index_of Tag.Time = 13
 
-abbrev pub named_by : List ℕ → Tag → List ℕ → Named → Named
-named_by name t s otherwise = cond (stands name s) (Known t) otherwise
+abbrev pub named_by : List ℕ → Tag → List ℕ → Option Tag → Option Tag
+named_by name t s otherwise = cond (stands name s) (Some t) otherwise
 
-abbrev pub tag_in : List Tag → List ℕ → Named
-tag_in [] s = Unknown
+abbrev pub tag_in : List Tag → List ℕ → Option Tag
+tag_in [] s = None
 tag_in (t ∷ ts) s = named_by (name_of t) t s (tag_in ts s)
 
-unfoldable pub tag_at : List ℕ → Named
+unfoldable pub tag_at : List ℕ → Option Tag
 tag_at s = tag_in tags s

@@ -1,31 +1,31 @@
 -- Lines taken one by one give what each tag states by its name. Assumes nothing.
 -- count_append, bad_append   lines in two parts
 -- nth_last       the line of a tag by its number, of lines with one more at the end
--- zero-place     a tag is absent where no line is of it
+-- some-stated    a tag is absent where no line is of it
 -- kept-cells, left-cells   the cells with one more line
 -- Once, once-again, twice-again   'No tag but TIME comes twice'
 -- named          the law
 use Prim.Native.Nat.{ℕ, zero, suc, ◌+◌, ◌≤◌, ◌<◌}
 use mathlib.Core.Path.{◌≡◌, refl, sym, ap, subst, ◌∙◌}
-use mathlib.Core.Bool.{Bool, true, false, false≢true, cond, ◌&&◌}
+use mathlib.Core.Bool.{Bool, true, false, false≢true, cond, not, ◌&&◌}
 use mathlib.Core.List.{List, [], ◌∷◌, ◌++◌, append_assoc, append-nil}
 use native.Mathlib.Omega.{arith}
 use lib.ListN.{length, get_or, set}
+use Rattle.std.specs.Prelude.{Option, Some, None}
+use Rattle.std.specs.Option.{is_some}
 use lib.Dec.{ltb, eqb}
 use borrow.Author.Tests.{eqb-true, eqb-false, eq-eqb, ne_eqb, le-ltb, lt-ltb}
 use Rattle.logic.specs.Cases.{cases}
 use Rattle.saptags.specs.declared.Tag.{Tag}
 use Rattle.saptags.specs.declared.Tag.TheVariants as tag
-use Rattle.saptags.specs.Tags.{name_of, index_of}
+use Rattle.saptags.specs.Tags.{index_of}
 use Rattle.saptags.specs.Laws.{index-once}
 use Rattle.saplines.specs.declared.Line.{Line}
-use Rattle.saplines.specs.declared.Line.TheVariants.{Bad, Good}
 use Rattle.saptext.specs.Text.{StoredLine}
 use Rattle.saptext.specs.Text.Text.{ended}
-use Rattle.saptext.specs.Stated.{entry_of, is_bad, is_of, tagged, one_more, count_of, any_bad, once_tags, any_twice, again, Stated, stated_by, nth_of}
-use Rattle.saptext.specs.Stated.Stated.{given}
-use Rattle.saptext.specs.Reading.{place_of, value_of, which_of, cells_of, counts, text_read}
-use Rattle.saptext.specs.Reading.TextRead.{spoilt}
+use Rattle.saptext.specs.Stated.{entry_of, is_bad, is_of, tagged, one_more, count_of, any_bad, once_tags, any_twice, again, stated_by, nth_of}
+use Rattle.saptext.specs.declared.Stated.{Stated}
+use Rattle.saptext.specs.Reading.{which_of, cells_of, counts, text_read}
 use Rattle.saptext.specs.Laws.{cell_at}
 use Rattle.saptext.proofs.Running.{Cells, noted, timed, step_with, run_lines, lines-bad}
 use Rattle.saptext.proofs.Running.Step.{kept}
@@ -63,25 +63,25 @@ module _ (t : Tag) (l : StoredLine) where
           cases (eqb a b) (λ e. rw e (eq-eqb (1 + a) (suc b) (omega (arith, eqb-true a b e))))
           (λ e. rw e (ne_eqb (1 + a) (suc b) (λ q. eqb-false a b e (omega arith))))
 
--- where a line is of a tag, its argument does not stand at 0
-place-above : (t : Tag) (from : ℕ) (e : Line) → is_of t e ≡ true → eqb (place_of (stated_by from e)) 0 ≡ false
-place-above t from Bad h = absurd (false≢true h)
-place-above t from (Good u n v) h = ne_eqb (from + length (name_of u) + 2) 0 (λ q. omega arith)
+-- what a line of a tag states is there
+stated-some : (t : Tag) (from : ℕ) (e : Option Line) → is_of t e ≡ true → is_some (stated_by from e) ≡ true
+stated-some t from None h = absurd (false≢true h)
+stated-some t from (Some k) h = refl
 
 -- A tag is absent exactly where no line is of it.
-pub zero-place : (t : Tag) (ls : List StoredLine) → eqb (place_of (nth_of t 0 ls)) 0 ≡ eqb (count_of t ls) 0
+pub some-stated : (t : Tag) (ls : List StoredLine) → is_some (nth_of t 0 ls) ≡ not (eqb (count_of t ls) 0)
 unfolding nth_of
-zero-place t [] = refl
-zero-place t (l ∷ ls) =
+some-stated t [] = refl
+some-stated t (l ∷ ls) =
     cases (tagged t l)
-    (λ e. rw (e, place-above t l.from (entry_of l.bytes) e, ne_eqb (1 + count_of t ls) 0 (λ q. omega arith)))
-    (λ e. rw e (zero-place t ls))
+    (λ e. rw (e, stated-some t l.from (entry_of l.bytes) e, ne_eqb (1 + count_of t ls) 0 (λ q. omega arith)))
+    (λ e. rw e (some-stated t ls))
 
--- the cells with another number in one of them
-abbrev changed : Tag → ℕ → (Tag → ℕ) → Tag → ℕ
+-- the cells with another value in one of them
+abbrev changed : {A : Type 0} → Tag → A → (Tag → A) → Tag → A
 changed t x g u = cond (eqb (index_of t) (index_of u)) x (g u)
 
-cell_set : (g : Tag → ℕ) (x : ℕ) (t : Tag) → set (cells_of g) (index_of t) x ≡ cells_of (changed t x g)
+cell_set : {A : Type 0} (g : Tag → A) (x : A) (t : Tag) → set (cells_of g) (index_of t) x ≡ cells_of (changed t x g)
 cell_set g x tag.Author = refl
 cell_set g x tag.Name = refl
 cell_set g x tag.Date = refl
@@ -97,41 +97,43 @@ cell_set g x tag.Player = refl
 cell_set g x tag.Covox = refl
 cell_set g x tag.Time = refl
 
-cells_same : (g h : Tag → ℕ) → ((t : Tag) → g t ≡ h t) → cells_of g ≡ cells_of h
+cells_same : {A : Type 0} (g h : Tag → A) → ((t : Tag) → g t ≡ h t) → cells_of g ≡ cells_of h
 cells_same g h e = ap cells_of (λ i t. e t i)
 
-module _ (part : Stated → ℕ) (song : ℕ) (ls : List StoredLine) (l : StoredLine) (t : Tag) (n v : ℕ) (e : entry_of l.bytes ≡ Good t n v) where
-  abbrev place : ℕ
-  place = l.from + length (name_of t) + 2
+module _ (song : ℕ) (ls : List StoredLine) (l : StoredLine) (k : Line) (e : entry_of l.bytes ≡ Some k) where
+  abbrev cells_before : List (Option Stated)
+  cells_before = cells_of (counts song ls)
 
-  abbrev cells_before : List ℕ
-  cells_before = cells_of (λ u. part (counts song ls u))
+  abbrev cells_after : List (Option Stated)
+  cells_after = cells_of (counts song (ls ++ l ∷ []))
 
-  abbrev cells_after : List ℕ
-  cells_after = cells_of (λ u. part (counts song (ls ++ l ∷ []) u))
+  abbrev this : Option Stated
+  this = stated_by l.from (Some k)
 
   -- A line that counts for its tag has its cell.
-  pub kept-cells : count_of t ls ≡ which_of song t → set cells_before (index_of t) (part (given place v)) ≡ cells_after
-  kept-cells k = cell_set (λ u. part (counts song ls u)) (part (given place v)) t ∙ cells_same (changed t (part (given place v)) (λ u. part (counts song ls u))) (λ u. part (counts song (ls ++ l ∷ []) u)) each
+  pub kept-cells : count_of k.tag ls ≡ which_of song k.tag → set cells_before (index_of k.tag) this ≡ cells_after
+  kept-cells c = cell_set (counts song ls) this k.tag ∙ cells_same (changed k.tag this (counts song ls)) (counts song (ls ++ l ∷ [])) each
     where
-      each : (u : Tag) → changed t (part (given place v)) (λ u. part (counts song ls u)) u ≡ part (counts song (ls ++ l ∷ []) u)
+      each : (u : Tag) → changed k.tag this (counts song ls) u ≡ counts song (ls ++ l ∷ []) u
       each u =
           rw (nth_last u l (which_of song u) ls, e)
-          (cases (eqb (index_of t) (index_of u))
-          (λ q. let same = index-once t u (eqb-true (index_of t) (index_of u) q) in rw (q, eq-eqb (count_of u ls) (which_of song u) (subst (λ (w : Tag). count_of w ls ≡ which_of song w) same k)))
+          (cases (eqb (index_of k.tag) (index_of u))
+          (λ q.
+          let same = index-once k.tag u (eqb-true (index_of k.tag) (index_of u) q) in
+          rw (q, eq-eqb (count_of u ls) (which_of song u) (subst (λ (w : Tag). count_of w ls ≡ which_of song w) same c)))
           (λ q. rw q))
 
   -- A line that does not count for its tag changes no cell.
-  pub left-cells : (count_of t ls ≡ which_of song t → ⊥) → cells_before ≡ cells_after
-  left-cells k = cells_same (λ u. part (counts song ls u)) (λ u. part (counts song (ls ++ l ∷ []) u)) each
+  pub left-cells : (count_of k.tag ls ≡ which_of song k.tag → ⊥) → cells_before ≡ cells_after
+  left-cells c = cells_same (counts song ls) (counts song (ls ++ l ∷ [])) each
     where
-      each : (u : Tag) → part (counts song ls u) ≡ part (counts song (ls ++ l ∷ []) u)
+      each : (u : Tag) → counts song ls u ≡ counts song (ls ++ l ∷ []) u
       each u =
           rw (nth_last u l (which_of song u) ls, e)
-          (cases (eqb (index_of t) (index_of u))
+          (cases (eqb (index_of k.tag) (index_of u))
           (λ q.
-          let same = index-once t u (eqb-true (index_of t) (index_of u) q) in
-          rw (q, ne_eqb (count_of u ls) (which_of song u) (λ c. k (subst (λ (w : Tag). count_of w ls ≡ which_of song w) (sym same) c))))
+          let same = index-once k.tag u (eqb-true (index_of k.tag) (index_of u) q) in
+          rw (q, ne_eqb (count_of u ls) (which_of song u) (λ d. c (subst (λ (w : Tag). count_of w ls ≡ which_of song w) (sym same) d))))
           (λ q. rw q))
 
 abbrev pub Once : List StoredLine → Type 0
@@ -175,49 +177,42 @@ once-again ls h = rw (each tag.Author refl, each tag.Name refl, each tag.Date re
 module _ (song : ℕ) where
   -- the cells of lines
   abbrev pub cells_for : List StoredLine → Cells
-  cells_for ls =
-      record {
-        places = cells_of (λ t. place_of (counts song ls t));
-        values = cells_of (λ t. value_of (counts song ls t));
-        times = count_of tag.Time ls;
-      }
+  cells_for ls = record { cells = cells_of (counts song ls); times = count_of tag.Time ls }
 
   -- the cells of lines with one more, which counts or does not
   abbrev More : List StoredLine → StoredLine → Cells → Type 0
   More ls l c = c ≡ cells_for (ls ++ l ∷ [])
 
-  times_more : (ls : List StoredLine) (l : StoredLine) (t : Tag) (n v : ℕ) → entry_of l.bytes ≡ Good t n v
-      → count_of tag.Time (ls ++ l ∷ []) ≡ one_more (eqb (index_of t) 13) 0 + count_of tag.Time ls
-  times_more ls l t n v e = count_append tag.Time ls (l ∷ []) ∙ rw e (omega arith)
+  times_more : (ls : List StoredLine) (l : StoredLine) (k : Line) → entry_of l.bytes ≡ Some k
+      → count_of tag.Time (ls ++ l ∷ []) ≡ one_more (eqb (index_of k.tag) 13) 0 + count_of tag.Time ls
+  times_more ls l k e = count_append tag.Time ls (l ∷ []) ∙ rw e (omega arith)
 
-  module _ (ls : List StoredLine) (l : StoredLine) (t : Tag) (n v : ℕ) (e : entry_of l.bytes ≡ Good t n v) where
-    abbrev placed : ℕ
-    placed = l.from + length (name_of t) + 2
+  module _ (ls : List StoredLine) (l : StoredLine) (k : Line) (e : entry_of l.bytes ≡ Some k) where
+    abbrev t : Tag
+    t = k.tag
 
-    noted_more : count_of t ls ≡ which_of song t → (times : ℕ) → times ≡ count_of tag.Time (ls ++ l ∷ []) → More ls l (noted (cells_for ls) times (index_of t) placed v)
-    noted_more k times is = λ i.
-        record {
-          places = kept-cells place_of song ls l t n v e k i;
-          values = kept-cells value_of song ls l t n v e k i;
-          times = is i;
-        }
+    abbrev states : Option Stated
+    states = stated_by l.from (Some k)
 
-    timed-more : eqb (index_of t) 13 ≡ true → More ls l (timed song (cells_for ls) placed v)
+    noted_more : count_of t ls ≡ which_of song t → (times : ℕ) → times ≡ count_of tag.Time (ls ++ l ∷ []) → More ls l (noted (cells_for ls) times (index_of t) states)
+    noted_more c times is = λ i.
+        record { cells = kept-cells song ls l k e c i; times = is i }
+
+    timed-more : eqb (index_of t) 13 ≡ true → More ls l (timed song (cells_for ls) states)
     timed-more q =
         let number = eqb-true (index_of t) 13 q in
         let time : t ≡ tag.Time = index-once t tag.Time number in
         let count : count_of tag.Time ls ≡ count_of t ls = ap (λ (u : Tag). count_of u ls) (sym time) in
         let which : which_of song t ≡ song = rw q in
-        let more : count_of tag.Time ls + 1 ≡ count_of tag.Time (ls ++ l ∷ []) = omega (arith, times_more ls l t n v e, ap (λ (b : Bool). one_more b 0) q) in
+        let more : count_of tag.Time ls + 1 ≡ count_of tag.Time (ls ++ l ∷ []) = omega (arith, times_more ls l k e, ap (λ (b : Bool). one_more b 0) q) in
         cases (eqb (count_of tag.Time ls) song)
-        (λ k.
-        rw k
-        (ap (λ (i : ℕ). noted (cells_for ls) (count_of tag.Time ls + 1) i placed v) (sym number)
-        ∙ noted_more (omega (arith, count, which, eqb-true (count_of tag.Time ls) song k)) (count_of tag.Time ls + 1) more))
-        (λ k.
-        let other : count_of t ls ≡ which_of song t → ⊥ = λ c. eqb-false (count_of tag.Time ls) song k (count ∙ c ∙ which) in
-        rw k
-        (λ i. record { places = left-cells place_of song ls l t n v e other i; values = left-cells value_of song ls l t n v e other i; times = more i }))
+        (λ c.
+        rw c
+        (ap (λ (i : ℕ). noted (cells_for ls) (count_of tag.Time ls + 1) i states) (sym number)
+        ∙ noted_more (omega (arith, count, which, eqb-true (count_of tag.Time ls) song c)) (count_of tag.Time ls + 1) more))
+        (λ c.
+        let other : count_of t ls ≡ which_of song t → ⊥ = λ d. eqb-false (count_of tag.Time ls) song c (count ∙ d ∙ which) in
+        rw c (λ i. record { cells = left-cells song ls l k e other i; times = more i }))
 
     -- no tag but TIME is of two lines
     once_more : Once ls → (eqb (index_of t) 13 ≡ false → count_of t ls ≡ 0) → Once (ls ++ l ∷ [])
@@ -232,19 +227,19 @@ module _ (song : ℕ) where
     -- a line of a tag, taken after the others
     take-line : (ks : List StoredLine) (end : ℕ) → any_bad ls ≡ false → Once ls
         → (any_bad (ls ++ l ∷ []) ≡ false → Once (ls ++ l ∷ []) → run_lines song (kept (cells_for (ls ++ l ∷ []))) ks end ≡ text_read song (ended ((ls ++ l ∷ []) ++ ks) end))
-        → run_lines song (step_with song (cells_for ls) l.from (Good t n v)) ks end ≡ text_read song (ended (ls ++ l ∷ ks) end)
+        → run_lines song (step_with song (cells_for ls) l.from (Some k)) ks end ≡ text_read song (ended (ls ++ l ∷ ks) end)
     take-line ks end fine once on =
         cases (eqb (index_of t) 13)
-        (λ q. rw q (carry (timed song (cells_for ls) placed v) (timed-more q) (once_more once (λ k. absurd (false≢true (sym k ∙ q))))))
+        (λ q. rw q (carry (timed song (cells_for ls) states) (timed-more q) (once_more once (λ d. absurd (false≢true (sym d ∙ q))))))
         (λ q.
-        let cell : get_or (cells_of (λ u. place_of (counts song ls u))) (index_of t) 0 ≡ place_of (nth_of t 0 ls) = cell_at (λ u. place_of (counts song ls u)) t ∙ rw q in
-        rw (q, cell, zero-place t ls)
+        let cell : get_or (cells_of (counts song ls)) (index_of t) None ≡ nth_of t 0 ls = cell_at (counts song ls) None t ∙ rw q in
+        rw (q, cell, some-stated t ls)
         (cases (eqb (count_of t ls) 0)
         (λ z.
         let none = eqb-true (count_of t ls) 0 z in
         let which : which_of song t ≡ 0 = rw q in
-        let more : count_of tag.Time ls ≡ count_of tag.Time (ls ++ l ∷ []) = omega (arith, times_more ls l t n v e, ap (λ (b : Bool). one_more b 0) q) in
-        rw z (carry (noted (cells_for ls) (count_of tag.Time ls) (index_of t) placed v) (noted_more (omega (arith, none, which)) (count_of tag.Time ls) more) (once_more once (λ k. none))))
+        let more : count_of tag.Time ls ≡ count_of tag.Time (ls ++ l ∷ []) = omega (arith, times_more ls l k e, ap (λ (b : Bool). one_more b 0) q) in
+        rw z (carry (noted (cells_for ls) (count_of tag.Time ls) (index_of t) states) (noted_more (omega (arith, none, which)) (count_of tag.Time ls) more) (once_more once (λ d. none))))
         (λ z. rw z (lines-bad song ks end ∙ sym (refused q z)))))
       where
         carry : (c : Cells) → More ls l c → Once (ls ++ l ∷ []) → run_lines song (kept c) ks end ≡ text_read song (ended (ls ++ l ∷ ks) end)
@@ -253,7 +248,7 @@ module _ (song : ℕ) where
             ∙ on (fine_append ls l fine (rw e)) o
             ∙ ap (λ (m : List StoredLine). text_read song (ended m end)) (append_assoc ls (l ∷ []) ks)
 
-        refused : eqb (index_of t) 13 ≡ false → eqb (count_of t ls) 0 ≡ false → text_read song (ended (ls ++ l ∷ ks) end) ≡ spoilt
+        refused : eqb (index_of t) 13 ≡ false → eqb (count_of t ls) 0 ≡ false → text_read song (ended (ls ++ l ∷ ks) end) ≡ None
         refused q z =
             let this : count_of t (l ∷ ks) ≡ 1 + count_of t ks = rw (e, eq-eqb (index_of t) (index_of t) refl) in
             let some : 1 < count_of t (ls ++ l ∷ ks) = omega (arith, count_append t ls (l ∷ ks), this, eqb-false (count_of t ls) 0 z) in
@@ -266,6 +261,6 @@ module _ (song : ℕ) where
   named ls (l ∷ ks) end fine once = go (named (ls ++ l ∷ []) ks end) (entry_of l.bytes) refl
     where
       go : (any_bad (ls ++ l ∷ []) ≡ false → Once (ls ++ l ∷ []) → run_lines song (kept (cells_for (ls ++ l ∷ []))) ks end ≡ text_read song (ended ((ls ++ l ∷ []) ++ ks) end))
-          → (x : Line) → entry_of l.bytes ≡ x → run_lines song (step_with song (cells_for ls) l.from x) ks end ≡ text_read song (ended (ls ++ l ∷ ks) end)
-      go on Bad e = rw (bad_append ls l ks (rw e)) (lines-bad song ks end)
-      go on (Good t n v) e = take-line ls l t n v e ks end fine once on
+          → (x : Option Line) → entry_of l.bytes ≡ x → run_lines song (step_with song (cells_for ls) l.from x) ks end ≡ text_read song (ended (ls ++ l ∷ ks) end)
+      go on None e = rw (bad_append ls l ks (rw e)) (lines-bad song ks end)
+      go on (Some k) e = take-line ls l k e ks end fine once on

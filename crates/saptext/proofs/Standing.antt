@@ -3,8 +3,8 @@
 -- text-past      the file's end: the text is not ended
 -- text-good      a good line: it is the first, and the others are those of the text from the next place on
 -- text-bad       anything else: nothing is read
--- entry_none, entry_open, entry_read, line-inside   a line read step by step
-use Prim.Native.Nat.{ℕ, ◌+◌, ◌≤◌, ◌<◌}
+-- line-inside    a line lies in the file, and its tag's name in it
+use Prim.Native.Nat.{ℕ, ◌+◌, ◌-◌, ◌≤◌, ◌<◌}
 use mathlib.Core.Path.{◌≡◌, refl, sym, ap, ◌∙◌}
 use mathlib.Core.Bool.{true, false}
 use mathlib.Core.List.{List, [], ◌∷◌}
@@ -16,19 +16,17 @@ use lib.Dec.{eqb}
 use borrow.Author.Tests.{eq-eqb, eqb-true}
 use Rattle.logic.specs.Cases.{cases}
 use Rattle.characters.specs.Characters.{stands}
-use Rattle.saptags.specs.declared.Tag.{Tag}
 use Rattle.saptags.specs.Tags.{name_of, index_of}
 use Rattle.sapblocks.specs.Blocks.{marker}
 use Rattle.saplines.specs.declared.Line.{Line}
-use Rattle.saplines.specs.declared.Line.TheVariants as line
 use Rattle.saplines.specs.Lines.{line_at}
 use Rattle.saplines.specs.Laws.{line_stop, line-within}
-use Rattle.saptext.specs.declared.Entry.TheVariants.{Bad, Good}
+use Rattle.std.specs.Prelude.{Option, Some, None}
+use Rattle.saptext.specs.declared.Entry.{Entry}
 use Rattle.saptext.specs.Text.{cut, with_line, text_from, text_on}
 use Rattle.saptext.specs.Text.Text.{unended, ended}
 use Rattle.saptext.specs.Stated.{whole, entry_of}
 use Rattle.saptext.specs.Reading.{line_end, closed_at, entry_at}
-use Rattle.saptext.specs.Reading.TextRead.{spoilt}
 use Rattle.saptext.proofs.Cutting.{Closed, pieces_of, first-cut, marker-first}
 use Rattle.saptext.proofs.Running.{Cells, step_to, run, run-line, run-bad}
 use Rattle.saptext.proofs.Running.Step.{kept}
@@ -91,75 +89,57 @@ module _ (f : List ℕ) (at : ℕ) where
         sum = omega arith
 
     module _ (song : ℕ) (cells : Cells) where
-      pub text-good : (i place value next : ℕ) → entry_at f at ≡ Good i place value next
-          → run song (kept cells) (text_on f at) ≡ run song (step_to song cells i place value) (text_on f next)
+      pub text-good : (x : Entry) → entry_at f at ≡ Some x
+          → run song (kept cells) (text_on f at) ≡ run song (step_to song cells (index_of x.tag) (Some x.stated)) (text_on f x.next)
       unfolding entry_at
-      text-good i place value next e = go (line_at (drop at f)) refl e
+      text-good x e = go (line_at (drop at f)) refl e
         where
-          read-on : (t : Tag) (n w : ℕ) → line_at (drop at f) ≡ line.Good t n w → stands line_end (drop n (drop at f)) ≡ true
-              → Good (index_of t) (at + length (name_of t) + 2) w (at + n + 2) ≡ Good i place value next
-              → run song (kept cells) (text_on f at) ≡ run song (step_to song cells i place value) (text_on f next)
-          read-on t n w q k r =
+          read-on : (k : Line) → line_at (drop at f) ≡ Some k → stands line_end (drop k.len (drop at f)) ≡ true
+              → run song (kept cells) (text_on f at) ≡ run song (step_to song cells (index_of k.tag) (Some (record { place = at + length (name_of k.tag) + 2; value = k.value }))) (text_on f (at + k.len + 2))
+          read-on k q h =
               let p = (cut (drop at f)).first in
-              let two = first-cut n (drop at f) k in
+              let two = first-cut k.len (drop at f) h in
               let same = piece-line two.0 ∙ q in
-              let len : n ≡ length p = omega (arith, two.1, (line-within p t n w same).1) in
-              let is : entry_of p ≡ line.Good t n w = rw (same, eq-eqb n (length p) len) in
-              let number : index_of t ≡ i = cc in
-              let where_it-stands : at + length (name_of t) + 2 ≡ place = cc in
-              let it : w ≡ value = cc in
-              let on : at + n + 2 ≡ next = cc in
-              ap (run song (kept cells)) (text-closed two.0 next (omega (arith, on, len)))
-              ∙ run-line song cells (record { from = at; bytes = p }) (text_on f next)
-              ∙ rw (is, number, where_it-stands, it)
+              let len : k.len ≡ length p = omega (arith, two.1, (line-within p k.tag k.len k.value same).1) in
+              let is : entry_of p ≡ Some k = rw (same, eq-eqb k.len (length p) len) in
+              ap (run song (kept cells)) (text-closed two.0 (at + k.len + 2) (omega (arith, len)))
+              ∙ run-line song cells (record { from = at; bytes = p }) (text_on f (at + k.len + 2))
+              ∙ rw is
 
-          go : (l : Line) → line_at (drop at f) ≡ l → closed_at f at l ≡ Good i place value next
-              → run song (kept cells) (text_on f at) ≡ run song (step_to song cells i place value) (text_on f next)
-          go line.Bad q r = absurd (let z : ◌≡◌ {A = ℕ} 0 1 = cc in omega arith)
-          go (line.Good t n w) q r =
-              cases (stands line_end (drop (at + n) f))
-              (λ k. read-on t n w q (rw (drop-drop n at f) k) (rw k at r))
-              (λ k. absurd (let s = rw k at r in let z : ◌≡◌ {A = ℕ} 0 1 = cc in omega arith))
+          go : (l : Option Line) → line_at (drop at f) ≡ l → closed_at f at l ≡ Some x
+              → run song (kept cells) (text_on f at) ≡ run song (step_to song cells (index_of x.tag) (Some x.stated)) (text_on f x.next)
+          go None q r = absurd (let z : ◌≡◌ {A = ℕ} 0 1 = cc in omega arith)
+          go (Some k) q r =
+              cases (stands line_end (drop (at + k.len) f))
+              (λ h.
+              let same : ◌≡◌ {A = Entry} (record { tag = k.tag; stated = record { place = at + length (name_of k.tag) + 2; value = k.value }; next = at + k.len + 2 }) x = let s = rw h at r in cc in
+              read-on k q (rw (drop-drop k.len at f) h) ∙ ap (λ (y : Entry). run song (step_to song cells (index_of y.tag) (Some y.stated)) (text_on f y.next)) same)
+              (λ h. absurd (let s = rw h at r in let z : ◌≡◌ {A = ℕ} 0 1 = cc in omega arith))
 
-      pub text-bad : entry_at f at ≡ Bad → run song (kept cells) (text_on f at) ≡ spoilt
+      pub text-bad : entry_at f at ≡ None → run song (kept cells) (text_on f at) ≡ None
       unfolding entry_at
       text-bad e = go (pieces_of (drop at f))
         where
-          piece-bad : (c : Closed (drop at f)) (l : Line) → line_at (drop at f) ≡ l → closed_at f at l ≡ Bad → whole (length (cut (drop at f)).first) l ≡ line.Bad
-          piece-bad c line.Bad q r = refl
-          piece-bad c (line.Good t n w) q r =
+          piece-bad : (c : Closed (drop at f)) (l : Option Line) → line_at (drop at f) ≡ l → closed_at f at l ≡ None → whole (length (cut (drop at f)).first) l ≡ None
+          piece-bad c None q r = refl
+          piece-bad c (Some m) q r =
               let p = (cut (drop at f)).first in
-              cases (eqb n (length p))
-              (λ k. absurd (let s = rw (closer c n (eqb-true n (length p) k)) at r in let z : ◌≡◌ {A = ℕ} 0 1 = cc in omega arith))
+              cases (eqb m.len (length p))
+              (λ k. absurd (let s = rw (closer c m.len (eqb-true m.len (length p) k)) at r in let z : ◌≡◌ {A = ℕ} 0 1 = cc in omega arith))
               (λ k. rw k)
 
-          go : ((cut (drop at f)).later ≡ []) ⊎ Closed (drop at f) → run song (kept cells) (text_on f at) ≡ spoilt
+          go : ((cut (drop at f)).later ≡ []) ⊎ Closed (drop at f) → run song (kept cells) (text_on f at) ≡ None
           go (inl q) = rw (text-alone q)
           go (inr c) =
               let p = (cut (drop at f)).first in
-              let is : entry_of p ≡ line.Bad = rw (piece-line c) (piece-bad c (line_at (drop at f)) refl e) in
+              let is : entry_of p ≡ None = rw (piece-line c) (piece-bad c (line_at (drop at f)) refl e) in
               ap (run song (kept cells)) (text-closed c (at + length p + 2) refl)
               ∙ run-line song cells (record { from = at; bytes = p }) (text_on f (at + length p + 2))
               ∙ rw is (run-bad song (text_on f (at + length p + 2)))
 
--- a line read step by step
-module _ (f : List ℕ) (at : ℕ) where
-  pub entry_none : line_at (drop at f) ≡ line.Bad → Bad ≡ entry_at f at
-  unfolding entry_at
-  entry_none e = rw e
-
-  module _ (t : Tag) (n w : ℕ) (e : line_at (drop at f) ≡ line.Good t n w) where
-    pub line-inside : at < length f → (at + length (name_of t) ≤ length f) × (at + n ≤ length f)
-    line-inside h =
-        let k = line-within (drop at f) t n w e in
-        let size = length-drop at f in
-        (omega (arith, k.0, k.1), omega (arith, k.1))
-
-    pub entry_open : stands line_end (drop (at + n) f) ≡ false → Bad ≡ entry_at f at
-    unfolding entry_at
-    entry_open k = rw (e, k)
-
-    pub entry_read : (name number : ℕ) → name ≡ length (name_of t) → number ≡ index_of t → stands line_end (drop (at + n) f) ≡ true
-        → Good number (at + name + 2) w (at + n + 2) ≡ entry_at f at
-    unfolding entry_at
-    entry_read name number m i k = rw (e, k, m, i)
+-- a line lies in the file, and its tag's name in it
+pub line-inside : (f s : List ℕ) (at : ℕ) (k : Line) → s ≡ drop at f → line_at s ≡ Some k → at < length f → (at + length (name_of k.tag) ≤ length f) × (at + k.len ≤ length f)
+line-inside f s at k is e h =
+    let within = line-within s k.tag k.len k.value e in
+    let size : length s ≡ length f - at = ap length is ∙ length-drop at f in
+    (omega (arith, within.0, within.1, size), omega (arith, within.1, size))

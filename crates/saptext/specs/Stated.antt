@@ -7,37 +7,37 @@
 -- any_bad      some line is bad
 -- once_tags, any_twice, again   'No tag but TIME comes twice'
 -- bad_lines, bad_text   52: 'a bad line (unknown tag, bad argument, tag again) or no FF FF'
--- Stated      what a line of a tag states: where a text that it has stands in the file, and its argument's
---             value; or that there is no such line
+-- given       what a line of a tag states: where a text that it has stands in the file, and its argument's
+--             value; None is that there is no such line
 -- stated_by    what a line states
 -- chosen, nth_of   the line of a tag by its number, counted from 0
 -- stated      the line of a tag
 -- time_of      the TIME of a song, counted from 0
-use Rattle.std.specs.Prelude.{ℕ, zero, suc, ◌+◌, Bool, true, false, cond, ◌||◌, List, [], ◌∷◌, length, take, ltb, eqb}
+use Rattle.std.specs.Prelude.{Option, Some, None, ℕ, zero, suc, ◌+◌, Bool, true, false, cond, ◌||◌, List, [], ◌∷◌, length, take, ltb, eqb}
 use Rattle.saptags.specs.declared.Tag.{Tag}
 use Rattle.saptags.specs.declared.Tag.TheVariants as tag
 use Rattle.saptags.specs.Tags.{name_of, tags, index_of}
 use Rattle.saplines.specs.declared.Line.{Line}
-use Rattle.saplines.specs.declared.Line.TheVariants.{Bad, Good}
 use Rattle.saplines.specs.Lines.{line_at}
+use Rattle.saptext.specs.declared.Stated.{Stated}
 use Rattle.saptext.specs.Text.{StoredLine, Text}
 use Rattle.saptext.specs.Text.Text.{unended, ended}
 
 -- a line that ends where its bytes do
-abbrev pub whole : ℕ → Line → Line
-whole size Bad = Bad
-whole size (Good t n value) = cond (eqb n size) (Good t n value) Bad
+abbrev pub whole : ℕ → Option Line → Option Line
+whole size None = None
+whole size (Some k) = cond (eqb k.len size) (Some k) None
 
-abbrev pub entry_of : List ℕ → Line
+abbrev pub entry_of : List ℕ → Option Line
 entry_of l = whole (length l) (line_at l)
 
-abbrev pub is_bad : Line → Bool
-is_bad Bad = true
-is_bad (Good t n value) = false
+abbrev pub is_bad : Option Line → Bool
+is_bad None = true
+is_bad (Some k) = false
 
-abbrev pub is_of : Tag → Line → Bool
-is_of t Bad = false
-is_of t (Good u n value) = eqb (index_of u) (index_of t)
+abbrev pub is_of : Tag → Option Line → Bool
+is_of t None = false
+is_of t (Some k) = eqb (index_of k.tag) (index_of t)
 
 abbrev pub tagged : Tag → StoredLine → Bool
 tagged t l = is_of t (entry_of l.bytes)
@@ -73,27 +73,26 @@ abbrev pub bad_text : Text → Bool
 bad_text unended = true
 bad_text (ended ls end) = bad_lines ls
 
-pub data Stated : Type 0 where
-  absent : Stated
-  given : ℕ → ℕ → Stated
+abbrev pub given : ℕ → ℕ → Option Stated
+given place value = Some (record { place = place; value = value })
 
 -- a text stands after the tag's name, one space and one quote
-abbrev pub stated_by : ℕ → Line → Stated
-stated_by from Bad = absent
-stated_by from (Good t n value) = given (from + length (name_of t) + 2) value
+abbrev pub stated_by : ℕ → Option Line → Option Stated
+stated_by from None = None
+stated_by from (Some k) = given (from + length (name_of k.tag) + 2) k.value
 
 -- a line of the tag is number 0 and the later ones count on; any other line does not count
-abbrev pub chosen : Bool → ℕ → Stated → (ℕ → Stated) → Stated
+abbrev pub chosen : Bool → ℕ → Option Stated → (ℕ → Option Stated) → Option Stated
 chosen true zero here later = here
 chosen true (suc n) here later = later n
 chosen false n here later = later n
 
-unfoldable pub nth_of : Tag → ℕ → List StoredLine → Stated
-nth_of t n [] = absent
+unfoldable pub nth_of : Tag → ℕ → List StoredLine → Option Stated
+nth_of t n [] = None
 nth_of t n (l ∷ ls) = chosen (tagged t l) n (stated_by l.from (entry_of l.bytes)) (λ k. nth_of t k ls)
 
-abbrev pub stated : Tag → List StoredLine → Stated
+abbrev pub stated : Tag → List StoredLine → Option Stated
 stated t ls = nth_of t 0 ls
 
-abbrev pub time_of : ℕ → List StoredLine → Stated
+abbrev pub time_of : ℕ → List StoredLine → Option Stated
 time_of song ls = nth_of tag.Time song ls

@@ -3,7 +3,7 @@
 --                 line
 -- clock-within, fraction-within, time-within   it lies within the bytes
 -- clock-small, fraction-small, time-most       how great its value is
-use Rattle.std.specs.Prelude.{ℕ, zero, suc, ◌+◌, ◌*◌, ◌^◌, ◌<◌, ◌≤◌, ◌≡◌, refl, true, ◌&&◌, ◌||◌, List, [], ◌∷◌, ◌++◌, length, drop, leb, eqb}
+use Rattle.std.specs.Prelude.{Option, Some, None, ℕ, zero, suc, ◌+◌, ◌*◌, ◌^◌, ◌<◌, ◌≤◌, ◌≡◌, refl, true, ◌&&◌, ◌||◌, List, [], ◌∷◌, ◌++◌, length, drop, leb, eqb}
 use Rattle.std.proofs.Common.{subst, arith, length-drop, leb-true, eqb-true}
 use Rattle.logic.specs.Cases.{cases}
 use Rattle.logic.specs.Truth.{both}
@@ -11,8 +11,8 @@ use Rattle.characters.specs.declared.Digits.{Digits}
 use Rattle.characters.specs.Characters.{begins, stands, digits_of}
 use Rattle.characters.specs.Laws.{begins_stop, stands_stop, Apart, stands-long, drop_stop, digits_stop, digits-below}
 use Rattle.saparguments.specs.declared.Argument.{Argument}
-use Rattle.saparguments.specs.declared.Argument.TheVariants.{Bad, Good}
-use Rattle.saparguments.specs.Laws.{Stops, Within, AtMost, good_if, begins-long, digits-within}
+use Rattle.saparguments.specs.Arguments.{good}
+use Rattle.saparguments.specs.Laws.{Stops, Within, AtMost, good-once, none-good, good_if, begins-long, digits-within}
 use Rattle.saptimes.specs.Times.{seconds_in, clock_at, thousandths, fraction_at, loop_word, looped_at, with_fraction, with_clock, time_at}
 
 -- Minutes and seconds stop where their line does.
@@ -42,7 +42,7 @@ few : (d : Digits) → d.value < 10 ^ d.len → eqb d.len 1 || eqb d.len 2 ≡ t
 few d h e = cases (eqb d.len 1) (λ p. omega (arith, subst (λ (n : ℕ). d.value < 10 ^ n) (eqb-true d.len 1 p) h)) (λ p. omega (arith, subst (λ (n : ℕ). d.value < 10 ^ n) (eqb-true d.len 2 (rw p at e)) h))
 
 -- Minutes and seconds are at most 99 of each.
-pub clock-small : (s : List ℕ) (n v : ℕ) → clock_at s ≡ Good n v → v ≤ 99 * 60 + 99
+pub clock-small : (s : List ℕ) (n v : ℕ) → clock_at s ≡ good n v → v ≤ 99 * 60 + 99
 clock-small s n v e =
     let m = digits_of 10 s in
     let d = seconds_in m s in
@@ -65,10 +65,10 @@ fraction-within s n v e =
     (λ p.
     let g = good_if (leb 1 d.len && leb d.len 3) (d.len + 1) (d.value * thousandths d.len) n v (rw p at e) in
     omega (arith, g.1, leb-true 1 d.len (both (leb 1 d.len) (leb d.len 3) g.0).0, digits-within 10 (drop 1 s), length-drop 1 s))
-    (λ p. let q = rw p at e in let zero : 0 ≡ n = cc in omega arith)
+    (λ p. omega (arith, (good-once 0 0 n v (rw p at e)).0))
 
 -- A fraction is below a second.
-pub fraction-small : (s : List ℕ) (n v : ℕ) → fraction_at s ≡ Good n v → v < 1000
+pub fraction-small : (s : List ℕ) (n v : ℕ) → fraction_at s ≡ good n v → v < 1000
 fraction-small s n v e =
     let d = digits_of 10 (drop 1 s) in
     cases (begins 0x2E s)
@@ -76,7 +76,7 @@ fraction-small s n v e =
     let g = good_if (leb 1 d.len && leb d.len 3) (d.len + 1) (d.value * thousandths d.len) n v (rw p at e) in
     let digits = both (leb 1 d.len) (leb d.len 3) g.0 in
     omega (arith, g.2, scaled d.len d.value (digits-below 10 (drop 1 s)) (leb-true 1 d.len digits.0) (leb-true d.len 3 digits.1)))
-    (λ p. let q = rw p at e in let zero : 0 ≡ v = cc in omega arith)
+    (λ p. omega (arith, (good-once 0 0 n v (rw p at e)).1))
   where
     scaled : (n w : ℕ) → w < 10 ^ n → 1 ≤ n → n ≤ 3 → w * thousandths n < 1000
     scaled zero w h low high = absurd (omega arith)
@@ -93,48 +93,48 @@ loop_apart = (refl, refl, (refl, refl, (refl, refl, (refl, refl, (refl, refl, tt
 pub time_stop : Stops time_at
 time_stop t a = rw (clock_stop t a) (go (clock_at a) refl)
   where
-    fraction : (len seconds : ℕ) (s : List ℕ) (f : Argument) → fraction_at s ≡ f → with_fraction len seconds (s ++ 0x0D ∷ t) f ≡ with_fraction len seconds s f
-    fraction len seconds s Bad e = refl
-    fraction len seconds s (Good n v) e = rw (drop_stop 0x0D t n s (fraction-within s n v e), stands_stop 0x0D t loop_word loop_apart (drop n s))
+    fraction : (len seconds : ℕ) (s : List ℕ) (f : Option Argument) → fraction_at s ≡ f → with_fraction len seconds (s ++ 0x0D ∷ t) f ≡ with_fraction len seconds s f
+    fraction len seconds s None e = refl
+    fraction len seconds s (Some f) e = rw (drop_stop 0x0D t f.len s (fraction-within s f.len f.value e), stands_stop 0x0D t loop_word loop_apart (drop f.len s))
 
-    go : (c : Argument) → clock_at a ≡ c → with_clock (a ++ 0x0D ∷ t) c ≡ with_clock a c
-    go Bad e = refl
-    go (Good len seconds) e =
-        rw (drop_stop 0x0D t len a (clock-within a len seconds e), fraction_stop t (drop len a))
-        (fraction len seconds (drop len a) (fraction_at (drop len a)) refl)
+    go : (c : Option Argument) → clock_at a ≡ c → with_clock (a ++ 0x0D ∷ t) c ≡ with_clock a c
+    go None e = refl
+    go (Some c) e =
+        rw (drop_stop 0x0D t c.len a (clock-within a c.len c.value e), fraction_stop t (drop c.len a))
+        (fraction c.len c.value (drop c.len a) (fraction_at (drop c.len a)) refl)
 
 -- A duration lies within the bytes.
 pub time-within : Within time_at
 time-within s n v e = go (clock_at s) refl e
   where
-    looped : (len ms : ℕ) (r : List ℕ) → looped_at len ms r ≡ Good n v → n ≤ len + length r
+    looped : (len ms : ℕ) (r : List ℕ) → looped_at len ms r ≡ good n v → n ≤ len + length r
     looped len ms r q =
         cases (stands loop_word r)
-        (λ p. let h = rw p at q in let is : len + 5 ≡ n = cc in omega (arith, stands-long 0x0D [] loop_word loop_apart r p))
-        (λ p. let h = rw p at q in let is : len ≡ n = cc in omega arith)
+        (λ p. let is = good-once (len + 5) (2 * ms + 1) n v (rw p at q) in omega (arith, is.0, stands-long 0x0D [] loop_word loop_apart r p))
+        (λ p. let is = good-once len (2 * ms) n v (rw p at q) in omega (arith, is.0))
 
-    fraction : (len seconds : ℕ) (r : List ℕ) (f : Argument) → fraction_at r ≡ f → with_fraction len seconds r f ≡ Good n v → n ≤ len + length r
-    fraction len seconds r Bad f q = absurd (let z : ◌≡◌ {A = ℕ} 0 1 = cc in omega arith)
-    fraction len seconds r (Good k ms) f q = omega (arith, fraction-within r k ms f, looped (len + k) (seconds * 1000 + ms) (drop k r) q, length-drop k r)
+    fraction : (len seconds : ℕ) (r : List ℕ) (f : Option Argument) → fraction_at r ≡ f → with_fraction len seconds r f ≡ good n v → n ≤ len + length r
+    fraction len seconds r None p q = none-good n v q
+    fraction len seconds r (Some f) p q = omega (arith, fraction-within r f.len f.value p, looped (len + f.len) (seconds * 1000 + f.value) (drop f.len r) q, length-drop f.len r)
 
-    go : (c : Argument) → clock_at s ≡ c → with_clock s c ≡ Good n v → n ≤ length s
-    go Bad p q = absurd (let z : ◌≡◌ {A = ℕ} 0 1 = cc in omega arith)
-    go (Good len seconds) p q = omega (arith, clock-within s len seconds p, fraction len seconds (drop len s) (fraction_at (drop len s)) refl q, length-drop len s)
+    go : (c : Option Argument) → clock_at s ≡ c → with_clock s c ≡ good n v → n ≤ length s
+    go None p q = none-good n v q
+    go (Some c) p q = omega (arith, clock-within s c.len c.value p, fraction c.len c.value (drop c.len s) (fraction_at (drop c.len s)) refl q, length-drop c.len s)
 
 -- A duration is at most 99 minutes, 99 seconds and 999 milliseconds.
 pub time-most : AtMost 12079999 time_at
 time-most s n v e = go (clock_at s) refl e
   where
-    looped : (len ms : ℕ) (r : List ℕ) → ms ≤ 6039999 → looped_at len ms r ≡ Good n v → v ≤ 12079999
+    looped : (len ms : ℕ) (r : List ℕ) → ms ≤ 6039999 → looped_at len ms r ≡ good n v → v ≤ 12079999
     looped len ms r h q =
         cases (stands loop_word r)
-        (λ p. let k = rw p at q in let is : 2 * ms + 1 ≡ v = cc in omega arith)
-        (λ p. let k = rw p at q in let is : 2 * ms ≡ v = cc in omega arith)
+        (λ p. let is = good-once (len + 5) (2 * ms + 1) n v (rw p at q) in omega (arith, is.1))
+        (λ p. let is = good-once len (2 * ms) n v (rw p at q) in omega (arith, is.1))
 
-    fraction : (len seconds : ℕ) (r : List ℕ) → seconds ≤ 6039 → (f : Argument) → fraction_at r ≡ f → with_fraction len seconds r f ≡ Good n v → v ≤ 12079999
-    fraction len seconds r h Bad f q = absurd (let z : ◌≡◌ {A = ℕ} 0 1 = cc in omega arith)
-    fraction len seconds r h (Good k ms) f q = looped (len + k) (seconds * 1000 + ms) (drop k r) (omega (arith, fraction-small r k ms f)) q
+    fraction : (len seconds : ℕ) (r : List ℕ) → seconds ≤ 6039 → (f : Option Argument) → fraction_at r ≡ f → with_fraction len seconds r f ≡ good n v → v ≤ 12079999
+    fraction len seconds r h None p q = none-good n v q
+    fraction len seconds r h (Some f) p q = looped (len + f.len) (seconds * 1000 + f.value) (drop f.len r) (omega (arith, fraction-small r f.len f.value p)) q
 
-    go : (c : Argument) → clock_at s ≡ c → with_clock s c ≡ Good n v → v ≤ 12079999
-    go Bad p q = absurd (let z : ◌≡◌ {A = ℕ} 0 1 = cc in omega arith)
-    go (Good len seconds) p q = fraction len seconds (drop len s) (omega (arith, clock-small s len seconds p)) (fraction_at (drop len s)) refl q
+    go : (c : Option Argument) → clock_at s ≡ c → with_clock s c ≡ good n v → v ≤ 12079999
+    go None p q = none-good n v q
+    go (Some c) p q = fraction c.len c.value (drop c.len s) (omega (arith, clock-small s c.len c.value p)) (fraction_at (drop c.len s)) refl q

@@ -1,7 +1,7 @@
-// A song's duration at a place of lent bytes: the argument of TIME. Each is found in one pass.
+// A song's duration at the front of lent bytes: the argument of TIME. Each is found in one pass.
 #![tactic(auto)]
 
-ghost use Rattle.std.specs.Prelude.{◌≡◌, ◌+◌, ◌<◌, ◌^◌, drop};
+ghost use Rattle.std.specs.Prelude.{Some, ◌≡◌, ◌<◌, ◌^◌};
 ghost use Rattle.saptimes.specs.Times.{thousandths, fraction_at, looped_at, clock_at, time_at};
 
 use saparguments::Argument;
@@ -10,76 +10,74 @@ use saparguments::Argument;
 fn unit_of(digits: usize) -> u32
     ensures { result ≡ thousandths digits }
 {
-    if digits == 1 {
-        return 100;
-    }
-    if digits == 2 { 10 } else { 1 }
-}
-
-// The fraction of a second, where one stands at the place.
-fn fraction_at(file: &[u8], at: usize) -> Argument
-    requires { at < 2 ^ 63 }
-    ensures { result ≡ fraction_at (drop at file.now) }
-{
-    if fields::byte_at(file, at) != 0x2E {
-        return Argument::Good(0, 0);
-    }
-    let d = characters::digits_at(file, at + 1, 10);
-    let len = d.len;
-    let value = d.value;
-    if (1 <= len) & (len <= 3) {
-        Argument::Good(len + 1, value * unit_of(len))
-    } else {
-        Argument::Bad
+    match digits {
+        1 => 100,
+        2 => 10,
+        _ => 1,
     }
 }
 
-// A duration of so many bytes and milliseconds, with LOOP where it stands at the place after it.
-fn looped_at(file: &[u8], at: usize, len: usize, milliseconds: u32) -> Argument
-    requires { (at < 2 ^ 63) × (len < 2 ^ 63) × (milliseconds < 2 ^ 31) }
-    ensures { result ≡ looped_at len milliseconds (drop at file.now) }
+// The fraction of a second, where one stands there.
+fn fraction_at(bytes: &[u8]) -> Option<Argument>
+    ensures { result ≡ fraction_at bytes.now }
 {
-    if characters::stands_at(file, at, b" LOOP") {
-        Argument::Good(len + 5, 2 * milliseconds + 1)
+    if fields::byte_at(bytes, 0) != b'.' {
+        return Some(Argument { len: 0, value: 0 });
+    }
+    let digits = characters::digits_of(characters::after(bytes, 1), 10);
+    if (1 <= digits.len) & (digits.len <= 3) {
+        Some(Argument {
+            len: digits.len + 1,
+            value: digits.value * unit_of(digits.len),
+        })
     } else {
-        Argument::Good(len, 2 * milliseconds)
+        None
+    }
+}
+
+// A duration of so many bytes and milliseconds, with LOOP where it stands after them.
+fn looped_at(bytes: &[u8], len: usize, milliseconds: u32) -> Argument
+    requires { (len < 2 ^ 63) × (milliseconds < 2 ^ 31) }
+    ensures { Some result ≡ looped_at len milliseconds bytes.now }
+{
+    if characters::stands(b" LOOP", bytes) {
+        Argument {
+            len: len + 5,
+            value: 2 * milliseconds + 1,
+        }
+    } else {
+        Argument {
+            len,
+            value: 2 * milliseconds,
+        }
     }
 }
 
 // Minutes and seconds: the value is in seconds.
-fn clock_at(file: &[u8], at: usize) -> Argument
-    requires { at < 2 ^ 63 }
-    ensures { result ≡ clock_at (drop at file.now) }
+fn clock_at(bytes: &[u8]) -> Option<Argument>
+    ensures { result ≡ clock_at bytes.now }
 {
-    let m = characters::digits_at(file, at, 10);
-    let minute_digits = m.len;
-    let minutes = m.value;
-    let mark = fields::byte_at(file, at + minute_digits);
-    let s = characters::digits_at(file, at + (minute_digits + 1), 10);
-    let second_digits = s.len;
-    let seconds = s.value;
-    if ((minute_digits == 1) | (minute_digits == 2)) & (mark == 0x3A) & (second_digits == 2) {
-        Argument::Good(minute_digits + 1 + second_digits, minutes * 60 + seconds)
+    let minutes = characters::digits_of(bytes, 10);
+    let mark = fields::byte_at(bytes, minutes.len);
+    let seconds = characters::digits_of(characters::after(bytes, minutes.len + 1), 10);
+    if ((minutes.len == 1) | (minutes.len == 2)) & (mark == b':') & (seconds.len == 2) {
+        Some(Argument {
+            len: minutes.len + 1 + seconds.len,
+            value: minutes.value * 60 + seconds.value,
+        })
     } else {
-        Argument::Bad
+        None
     }
 }
 
 // internal: a duration, with LOOP where it follows.
-pub fn time_at(file: &[u8], at: usize) -> Argument
-    requires { at < 2 ^ 63 }
-    ensures { result ≡ time_at (drop at file.now) }
+pub fn time_at(bytes: &[u8]) -> Option<Argument>
+    ensures { result ≡ time_at bytes.now }
 {
-    match clock_at(file, at) {
-        Argument::Bad => Argument::Bad,
-        Argument::Good(len, seconds) => match fraction_at(file, at + len) {
-            Argument::Bad => Argument::Bad,
-            Argument::Good(n, rest) => looped_at(
-                file,
-                at + len + n,
-                len + n,
-                seconds * 1000 + rest,
-            ),
-        },
-    }
+    let clock = clock_at(bytes)?;
+    let rest = characters::after(bytes, clock.len);
+    let fraction = fraction_at(rest)?;
+    let len = clock.len + fraction.len;
+    let milliseconds = clock.value * 1000 + fraction.value;
+    Some(looped_at(characters::after(rest, fraction.len), len, milliseconds))
 }

@@ -5,6 +5,7 @@ use Prim.Native.Nat.{ℕ, ◌+◌, ◌-◌, ◌<◌, ◌≤◌}
 use mathlib.Core.Path.{◌≡◌, refl, sym, ◌∙◌}
 use mathlib.Core.Bool.{true≢false}
 use mathlib.Core.List.{List}
+use Rattle.std.specs.Prelude.{Ok, Err}
 use native.Mathlib.Omega.{arith}
 use lib.ListN.{length, take}
 use lib.Seq.{length-take-le, get_or-take}
@@ -13,9 +14,8 @@ use borrow.Author.Tests.{lt-ltb, le-ltb, ne_eqb, eqb-true}
 use Rattle.logic.specs.Cases.{cases}
 use Rattle.refusals.specs.Numbers.{Outcome}
 use Rattle.refusals.specs.Numbers.Outcome.{accepted}
-use Rattle.refusals.specs.declared.Verdict.{Verdict}
-use Rattle.refusals.specs.declared.Verdict.TheVariants.{Passed, Failed}
-use Rattle.refusals.specs.Tests.{first_of, guarded}
+use Rattle.refusals.specs.declared.Reason.TheVariants.{PastMemory}
+use Rattle.refusals.specs.Tests.{Verdict, first_of, guarded}
 use Rattle.refusals.specs.Laws.{first_failed, passed_none}
 use Rattle.fields.specs.Numbers.{be16, be32}
 use Rattle.sidheader.specs.declared.Fields.{Fields}
@@ -81,7 +81,7 @@ header-resized : (x : Fields) (n : ℕ) → 124 ≤ n → 124 ≤ x.size → fir
 header-resized x n h k = rw (le-ltb n 118 (omega arith), le-ltb n 124 h, le-ltb x.size 118 (omega arith), le-ltb x.size 124 k)
 
 -- a header that passes has its data offset at $76 or $7C
-offset-passed : (x : Fields) → first_of (header_tests x) ≡ Passed → x.offset ≤ 124
+offset-passed : (x : Fields) → first_of (header_tests x) ≡ Ok tt → x.offset ≤ 124
 offset-passed x e =
     let none = passed_none (header_tests x) e in
     let version = none.1.1.0 in
@@ -92,7 +92,7 @@ offset-passed x e =
     cases (two x) (λ w. absurd (true≢false (rw (v, w, q) at offset))) (λ w. absurd (true≢false (rw (v, w) at version))))))
 
 -- so long a file is past $FFFF wherever it is loaded
-too_long_lem : (f : List ℕ) (x : Fields) → x.offset ≤ 124 → 65663 ≤ x.size → first_of (payload_tests x (payload_of f x)) ≡ Failed 10
+too_long_lem : (f : List ℕ) (x : Fields) → x.offset ≤ 124 → 65663 ≤ x.size → first_of (payload_tests x (payload_of f x)) ≡ Err PastMemory
 unfolding payload_of
 too_long_lem f x o h =
     let some : x.size - x.offset ≡ 0 → ⊥ = omega arith in
@@ -102,14 +102,14 @@ too_long_lem f x o h =
 
 -- a long file is refused by its header or with 10
 by_long : (f : List ℕ) (v : Verdict) → first_of (header_tests (fields_of f)) ≡ v → 65663 ≤ (fields_of f).size
-    → sid_outcome f ≡ guarded (first_failed v (Failed 10)) (accepted (header f))
+    → sid_outcome f ≡ guarded (first_failed v (Err PastMemory)) (accepted (header f))
 unfolding sid_outcome
-by_long f Passed e h = rw (first_parts f (fields_of f) (payload_of f (fields_of f)) refl refl, e, too_long_lem f (fields_of f) (offset-passed (fields_of f) e) h)
-by_long f (Failed m) e h = rw (first_parts f (fields_of f) (payload_of f (fields_of f)) refl refl, e)
+by_long f (Ok u) e h = rw (first_parts f (fields_of f) (payload_of f (fields_of f)) refl refl, e, too_long_lem f (fields_of f) (offset-passed (fields_of f) e) h)
+by_long f (Err r) e h = rw (first_parts f (fields_of f) (payload_of f (fields_of f)) refl refl, e)
 
-either : {A : Type 0} (v : Verdict) (a b : Outcome A) → guarded (first_failed v (Failed 10)) a ≡ guarded (first_failed v (Failed 10)) b
-either Passed a b = refl
-either (Failed m) a b = refl
+either : {A : Type 0} (v : Verdict) (a b : Outcome A) → guarded (first_failed v (Err PastMemory)) a ≡ guarded (first_failed v (Err PastMemory)) b
+either (Ok u) a b = refl
+either (Err r) a b = refl
 
 size-fields : (f : List ℕ) → (fields_of f).size ≡ length f
 unfolding fields_of

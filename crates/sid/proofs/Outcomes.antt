@@ -1,22 +1,21 @@
 -- The outcome of each way through the tests. Assumes nothing.
 -- first_parts     the tests of a file, by the two lists of them
 -- too_short_lem, header_failed, payload_failed, all_passed   testing, by the verdicts of the two lists
--- payload-short   the payload is no longer than the file
-use Prim.Native.Nat.{ℕ, ◌<◌, ◌≤◌}
+use Prim.Native.Nat.{ℕ, ◌<◌}
 use mathlib.Core.Path.{◌≡◌}
 use mathlib.Core.List.{List}
-use native.Mathlib.Omega.{arith}
+use Rattle.std.specs.Prelude.{Ok, Err}
 use lib.ListN.{length}
 use borrow.Author.Tests.{lt-ltb}
-use Rattle.logic.specs.Cases.{cases}
 use Rattle.refusals.specs.Numbers.Outcome.{accepted, refused}
-use Rattle.refusals.specs.declared.Verdict.TheVariants.{Passed, Failed}
+use Rattle.refusals.specs.declared.Reason.{Reason}
+use Rattle.refusals.specs.Numbers.{number_of}
 use Rattle.refusals.specs.Tests.{first_of, guarded}
 use Rattle.refusals.specs.Laws.{first_failed, first_append}
 use Rattle.sidheader.specs.declared.Fields.{Fields}
 use Rattle.sidheader.specs.declared.Payload.{Payload}
 use Rattle.sidheader.specs.Fields.{fields_of}
-use Rattle.sidheader.specs.Payload.{addressed, payload_of}
+use Rattle.sidheader.specs.Payload.{payload_of}
 use Rattle.sidrefusals.specs.HeaderTests.{header_tests}
 use Rattle.sidrefusals.specs.PayloadTests.{payload_tests, sid_tests}
 use Rattle.sid.specs.Answers.{passing, tested_outcome}
@@ -34,15 +33,11 @@ module _ (f : List ℕ) (x : Fields) (p : Payload) (ex : x ≡ fields_of f) (ep 
   unfolding tested_outcome
   by_parts = rw (first_parts, ep, ex)
 
-  pub header_failed : (n : ℕ) → first_of (header_tests x) ≡ Failed n → refused n 0 ≡ tested_outcome f
-  header_failed n e = rw (by_parts, e)
+  pub header_failed : (r : Reason) → Err r ≡ first_of (header_tests x) → refused (number_of r) 0 ≡ tested_outcome f
+  header_failed r e = rw (by_parts, ← e)
 
-  pub payload_failed : (n : ℕ) → first_of (header_tests x) ≡ Passed → first_of (payload_tests x p) ≡ Failed n → refused n 0 ≡ tested_outcome f
-  payload_failed n first e = rw (by_parts, first, e)
+  pub payload_failed : (r : Reason) → Ok tt ≡ first_of (header_tests x) → Err r ≡ first_of (payload_tests x p) → refused (number_of r) 0 ≡ tested_outcome f
+  payload_failed r first e = rw (by_parts, ← first, ← e)
 
-  pub all_passed : first_of (header_tests x) ≡ Passed → first_of (payload_tests x p) ≡ Passed → accepted (passing x p) ≡ tested_outcome f
-  all_passed first e = rw (by_parts, first, e)
-
-  pub payload-short : p.len ≤ length f
-  unfolding payload_of fields_of
-  payload-short = rw (ep, ex) (cases (addressed (fields_of f)) (λ e. rw e (omega arith)) (λ e. rw e (omega arith)))
+  pub all_passed : Ok tt ≡ first_of (header_tests x) → Ok tt ≡ first_of (payload_tests x p) → accepted (passing x p) ≡ tested_outcome f
+  all_passed first e = rw (by_parts, ← first, ← e)

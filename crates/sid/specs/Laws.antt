@@ -4,63 +4,45 @@
 -- accepted-fits                 an accepted file's payload lies within the 65,536 cells
 -- payload-whole                 its payload has as many bytes as the header says
 -- text-part                     a text's span names the text
-use Rattle.std.specs.Prelude.{ℕ, ◌+◌, ◌-◌, ◌≤◌, ◌≡◌, refl, List, length, take, drop}
+use Rattle.std.specs.Prelude.{Result, Ok, Err, ℕ, ◌+◌, ◌-◌, ◌≤◌, ◌≡◌, refl, List, length, take, drop}
 use Rattle.std.proofs.Common.{sym, subst, ◌∙◌, ap, arith, length-take, length-drop, take-take, ltb-false}
 use Rattle.logic.specs.Cases.{cases}
-use Rattle.refusals.specs.Numbers.{Outcome}
+use Rattle.refusals.specs.Numbers.{Outcome, outcome_of}
 use Rattle.refusals.specs.Numbers.Outcome.{accepted}
-use Rattle.refusals.specs.declared.Verdict.{Verdict}
-use Rattle.refusals.specs.declared.Verdict.TheVariants.{Passed, Failed}
-use Rattle.refusals.specs.Tests.{first_of, guarded}
-use Rattle.refusals.specs.Laws.{none_append, refused-once, two_ways}
+use Rattle.refusals.specs.declared.Refusal.{Refusal}
+use Rattle.refusals.specs.Tests.{Verdict, first_of, guarded}
+use Rattle.refusals.specs.Laws.{none_append, outcome-once}
 use Rattle.fields.specs.Parts.{before_zero, part_of}
 use Rattle.fields.specs.Laws.{take-before, length_before}
+use Rattle.sidheader.specs.declared.Parts.{Parts}
 use Rattle.sidheader.specs.Fields.{fields_of}
 use Rattle.sidheader.specs.Payload.{addressed, payload_of}
 use Rattle.sidrefusals.specs.HeaderTests.{header_tests}
 use Rattle.sidrefusals.specs.PayloadTests.{payload_tests, sid_tests}
 use Rattle.sid.specs.declared.Header.{Header}
 use Rattle.sid.specs.Header.{header_of, text_at, span_at}
-use Rattle.sid.specs.declared.Reading.{Reading}
-use Rattle.sid.specs.declared.Reading.TheVariants.{Accepted, Refused}
-use Rattle.sid.specs.declared.Tested.{Tested}
-use Rattle.sid.specs.declared.Tested.TheVariants as answer
-use Rattle.sid.specs.Answers.{outcome_of_tune, sid_outcome, Passing, passing, outcome_of_tested, tested_outcome, headed}
+use Rattle.sid.specs.Answers.{sid_outcome, passing, tested_outcome, headed}
 use Rattle.sid.specs.Acceptance.{header, accepted_none, accepted-header}
-use Rattle.sid.specs.declared.SongSpeed.{SongSpeed}
-use Rattle.sid.specs.declared.SongSpeed.TheVariants as song
-use Rattle.sid.specs.Speed.{outcome_of_speed}
 
--- No two answers have the same outcome: an equation of `outcome_of_tune` leaves the answer no freedom.
-pub tune-once : (a b : Reading) → outcome_of_tune a ≡ outcome_of_tune b → a ≡ b
-tune-once (Accepted g) (Accepted h) e = let same : g ≡ h = cc in rw same
-tune-once (Accepted g) (Refused y) e = absurd (two_ways (sym e))
-tune-once (Refused x) (Accepted h) e = absurd (two_ways e)
-tune-once (Refused x) (Refused y) e = ap Refused (refused-once {X = Header} x y e)
+-- No two answers have the same outcome: an equation of `outcome_of` leaves the answer no freedom.
+pub tune-once : (a b : Result Header Refusal) → outcome_of a ≡ outcome_of b → a ≡ b
+tune-once = outcome-once
 
 -- So it is with the answers of the tests.
-pub tested-once : (a b : Tested) → outcome_of_tested a ≡ outcome_of_tested b → a ≡ b
-tested-once (answer.Passed x p) (answer.Passed y q) e =
-    let same : passing x p ≡ passing y q = cc in
-    λ i. answer.Passed (same i).fields (same i).payload
-tested-once (answer.Passed x p) (answer.Refused y) e = absurd (two_ways (sym e))
-tested-once (answer.Refused x) (answer.Passed y q) e = absurd (two_ways e)
-tested-once (answer.Refused x) (answer.Refused y) e = ap answer.Refused (refused-once {X = Passing} x y e)
+pub tested-once : (a b : Result Parts Refusal) → outcome_of a ≡ outcome_of b → a ≡ b
+tested-once = outcome-once
 
 -- And with the answers to a song's number.
-pub speed_once : (a b : SongSpeed) → outcome_of_speed a ≡ outcome_of_speed b → a ≡ b
-speed_once (song.Bit m) (song.Bit n) e = let same : m ≡ n = cc in rw same
-speed_once (song.Bit m) (song.Refused y) e = absurd (two_ways (sym e))
-speed_once (song.Refused x) (song.Bit n) e = absurd (two_ways e)
-speed_once (song.Refused x) (song.Refused y) e = ap song.Refused (refused-once {X = ℕ} x y e)
+pub speed_once : (a b : Result ℕ Refusal) → outcome_of a ≡ outcome_of b → a ≡ b
+speed_once = outcome-once
 
 -- Making the header after the tests or inside them is the same.
-pub headed-guarded : (f : List ℕ) (v : Verdict) (o : Outcome Passing) → headed f (guarded v o) ≡ guarded v (headed f o)
-headed-guarded f Passed o = refl
-headed-guarded f (Failed n) o = refl
+pub headed-guarded : (f : List ℕ) (v : Verdict) (o : Outcome Parts) → headed f (guarded v o) ≡ guarded v (headed f o)
+headed-guarded f (Ok u) o = refl
+headed-guarded f (Err r) o = refl
 
 -- What the tests come back with, with its header made, is what reading comes back with.
-pub read-headed : (f : List ℕ) (o : Outcome Passing) → o ≡ tested_outcome f → headed f o ≡ sid_outcome f
+pub read-headed : (f : List ℕ) (o : Outcome Parts) → o ≡ tested_outcome f → headed f o ≡ sid_outcome f
 unfolding tested_outcome sid_outcome
 read-headed f o e = ap (headed f) e ∙ headed-guarded f (first_of (sid_tests f)) (accepted (passing (fields_of f) (payload_of f (fields_of f))))
 

@@ -4,9 +4,10 @@ ghost use Rattle.sid.specs.Header.{kind_of_magic, start_of, span_at, header_of};
 
 use crate::{Header, Kind};
 use fields::Span;
-use sidheader::{Fields, Payload};
+use sidheader::Parts;
 
-// What the magic says the file is, once it is known to be one of the two.
+// What the magic says the file is, once it is known to be one of the two. A TryFrom is no plainer: it would
+// need an error for other numbers, and none comes here.
 fn kind_of(magic: u32) -> Kind
     ensures { result ≡ kind_of_magic magic }
 {
@@ -21,7 +22,7 @@ fn kind_of(magic: u32) -> Kind
 fn start_of(start: u16) -> u16
     ensures { result ≡ start_of start }
 {
-    if start == 0 { 1 } else { start }
+    start.max(1)
 }
 
 // Where the text at an offset lies, and its length.
@@ -32,38 +33,33 @@ fn text_at(file: &[u8], at: usize) -> Span
     Span { from: at, len }
 }
 
+#[tactic(auto, unfolding(crate::specs::Header::header_of))]
 // internal: each field of the header, with the texts' lengths.
-pub fn header_of(file: &[u8], x: Fields, p: Payload) -> Header
-    ensures { result ≡ header_of file.now x p }
+pub fn header_of(file: &[u8], parts: Parts) -> Header
+    ensures { result ≡ header_of file.now parts.fields parts.payload }
 {
-    let flags = x.flags;
-    let kind = kind_of(x.magic);
-    let init = sidheader::init_of(x, p);
-    let start = start_of(x.start);
-    let title = text_at(file, 0x16);
-    let author = text_at(file, 0x36);
-    let released = text_at(file, 0x56);
-    let payload = Span {
-        from: p.from,
-        len: p.len,
-    };
+    let x = parts.fields;
+    let p = parts.payload;
     Header {
-        kind,
+        kind: kind_of(x.magic),
         version: x.version,
         load: p.load,
-        init,
+        init: parts.init(),
         play: x.play,
         songs: x.songs,
-        start,
+        start: start_of(x.start),
         speed: x.speed,
-        basic: flags / 2 % 2 == 1,
-        clock: flags / 4 % 4,
-        model: flags / 16 % 4,
+        basic: x.flags / 2 % 2 == 1,
+        clock: x.flags / 4 % 4,
+        model: x.flags / 16 % 4,
         page: x.page,
         pages: x.pages,
-        title,
-        author,
-        released,
-        payload,
+        title: text_at(file, 0x16),
+        author: text_at(file, 0x36),
+        released: text_at(file, 0x56),
+        payload: Span {
+            from: p.from,
+            len: p.len,
+        },
     }
 }

@@ -3,12 +3,13 @@
 #![tactic(auto)]
 
 ghost use Rattle.std.specs.Prelude.{◌≡◌};
-ghost use Rattle.sid.specs.Answers.{outcome_of_tune, sid_outcome, outcome_of_tested, tested_outcome};
-ghost use Rattle.sid.specs.Speed.{outcome_of_speed, song_speed};
+ghost use Rattle.refusals.specs.Numbers.{outcome_of};
+ghost use Rattle.sid.specs.Answers.{sid_outcome, tested_outcome};
+ghost use Rattle.sid.specs.Speed.{song_speed};
 
 use fields::Span;
-use refusals::{Refusal, Verdict};
-use sidheader::Fields;
+use refusals::{Reason, Refusal};
+use sidheader::Parts;
 
 pub mod accepted;
 pub mod speed;
@@ -17,7 +18,7 @@ pub mod speed;
 const SHORTEST: usize = 118;
 
 // What the file's first four bytes say it is.
-#[derive(Clone, Copy)]
+#[derive(Clone, Copy, Debug, PartialEq, Eq)]
 pub enum Kind {
     Psid,
     Rsid,
@@ -47,69 +48,39 @@ pub struct Header {
     pub payload: Span,
 }
 
-// The answer to a file.
-#[derive(Clone, Copy)]
-pub enum Reading {
-    Accepted(Header),
-    Refused(Refusal),
-}
-
-// The answer of a file's tests: what its header is made of, or the first refusal that applies.
-#[derive(Clone, Copy)]
-pub enum Tested {
-    Passed(Fields, sidheader::Payload),
-    Refused(Refusal),
-}
-
-// The answer to a song's number: its bit of the speed field.
-#[derive(Clone, Copy)]
-pub enum SongSpeed {
-    Bit(u32),
-    Refused(Refusal),
-}
-
-// internal: tests a file, and does not look for the ends of its texts: only the header needs them.
-pub fn test(file: &[u8]) -> Tested
-    ensures { outcome_of_tested result ≡ tested_outcome file.now }
+// internal: tests a file, and does not look for the ends of its texts: only the header needs them. Answers
+// what its header is made of, or the first refusal that applies.
+pub fn test(file: &[u8]) -> Result<Parts, Refusal>
+    ensures { outcome_of result ≡ tested_outcome file.now }
 {
     // the first test by itself: past it the compiler knows that the header is there, and leaves out a check
     // at each byte
     if file.len() < SHORTEST {
-        return Tested::Refused(Refusal::unplaced(refusals::TOO_SHORT));
+        return Err(Reason::TooShort.into());
     }
-    let x = sidheader::read_fields(file);
-    let first = sidrefusals::test_header(x);
-    match first {
-        Verdict::Failed(number) => Tested::Refused(Refusal::unplaced(number)),
-        Verdict::Passed => {
-            let p = sidheader::payload_of(file, x);
-            let second = sidrefusals::test_payload(x, p);
-            match second {
-                Verdict::Failed(number) => Tested::Refused(Refusal::unplaced(number)),
-                Verdict::Passed => Tested::Passed(x, p),
-            }
-        }
-    }
+    let fields = sidheader::read_fields(file);
+    sidrefusals::test_header(fields)?;
+    let payload = sidheader::payload_of(file, fields);
+    let parts = Parts { fields, payload };
+    sidrefusals::test_payload(parts)?;
+    Ok(parts)
 }
 
 // Reads a file: its header, or the first refusal that applies.
-pub fn read(file: &[u8]) -> Reading
-    ensures { outcome_of_tune result ≡ sid_outcome file.now }
+pub fn read(file: &[u8]) -> Result<Header, Refusal>
+    ensures { outcome_of result ≡ sid_outcome file.now }
 {
     // as in test: past it the compiler knows that the texts are there, and unrolls the search for their ends
     if file.len() < SHORTEST {
-        return Reading::Refused(Refusal::unplaced(refusals::TOO_SHORT));
+        return Err(Reason::TooShort.into());
     }
-    let answer = test(file);
-    match answer {
-        Tested::Refused(x) => Reading::Refused(x),
-        Tested::Passed(x, p) => Reading::Accepted(accepted::header_of(file, x, p)),
-    }
+    let parts = test(file)?;
+    Ok(accepted::header_of(file, parts))
 }
 
 // The speed bit of a song, counted from 1, by the header of its file; 44 for a song that is not there.
-pub fn song_speed(header: Header, song: u64) -> SongSpeed
-    ensures { outcome_of_speed result ≡ song_speed header song }
+pub fn song_speed(header: Header, song: u64) -> Result<u32, Refusal>
+    ensures { outcome_of result ≡ song_speed header song }
 {
     speed::speed_of(header.songs, header.speed, song)
 }

@@ -1,39 +1,32 @@
 // A song's speed by two numbers of a header: how many songs there are, and the speed field.
 ghost use Rattle.std.specs.Prelude.{◌≡◌, ◌-◌, min};
-ghost use Rattle.sid.specs.Speed.{outcome_of_speed, speed_bit, speed_of};
+ghost use Rattle.refusals.specs.Numbers.{outcome_of};
+ghost use Rattle.sid.specs.Speed.{speed_bit, speed_of};
 
-use crate::SongSpeed;
-use refusals::Refusal;
+use refusals::{Reason, Refusal};
 
 // Which bit it is: song - 1, and 31 above song 32.
 fn bit_number(song: u64) -> u32
     ensures { result ≡ min song 32 - 1 }
 {
-    if song == 0 {
-        return 0;
-    }
-    if 32 < song {
-        return 31;
-    }
-    (song - 1) as u32
+    song.min(32).saturating_sub(1) as u32
 }
 
+#[tactic(auto, unfolding(crate::specs::Speed::speed_bit))]
 // The bit itself.
 fn speed_bit(field: u32, song: u64) -> u32
     ensures { result ≡ speed_bit field song }
 {
-    let n = bit_number(song);
-    (field >> n) % 2
+    (field >> bit_number(song)) % 2
 }
 
 // internal: the song's bit, or 44.
-pub fn speed_of(songs: u16, field: u32, song: u64) -> SongSpeed
-    ensures { outcome_of_speed result ≡ speed_of songs field song }
+pub fn speed_of(songs: u16, field: u32, song: u64) -> Result<u32, Refusal>
+    ensures { outcome_of result ≡ speed_of songs field song }
 {
-    let last = songs as u64;
-    if (song == 0) | (last < song) {
-        SongSpeed::Refused(Refusal::unplaced(refusals::NO_SUCH_SONG))
+    if song == 0 || u64::from(songs) < song {
+        Err(Reason::NoSuchSong.into())
     } else {
-        SongSpeed::Bit(speed_bit(field, song))
+        Ok(speed_bit(field, song))
     }
 }

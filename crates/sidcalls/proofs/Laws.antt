@@ -9,7 +9,7 @@ use lib.Dec.{lit<, eqb, ltb}
 use lib.ListN.{length}
 use Rattle.refusals.specs.Numbers.{Outcome}
 use Rattle.refusals.specs.Numbers.Outcome.{accepted, refused}
-use Rattle.refusals.specs.Numbers.Reason.{no_such_song}
+use Rattle.refusals.specs.declared.Reason.TheVariants.{NoSuchSong}
 use Rattle.refusals.specs.Tests.{test, first_of, and_then}
 use Rattle.refusals.specs.Laws.{two_ways, guarded-accepted}
 use Rattle.sid.specs.declared.Header.{Header}
@@ -30,7 +30,7 @@ module _ (f : List ℕ) where
     where
       bit_low : (o : Outcome Header) (bit : ℕ) → and_then o (λ h. song_speed h song) ≡ accepted bit → bit < 0x100000000
       bit_low (accepted h) bit e =
-          let is : speed_bit h.speed song ≡ bit = (guarded-accepted (first_of (test no_such_song (eqb song 0 || ltb h.songs song) ∷ [])) bit (speed_bit h.speed song) e).1 in
+          let is : speed_bit h.speed song ≡ bit = (guarded-accepted (first_of (test NoSuchSong (eqb song 0 || ltb h.songs song) ∷ [])) bit (speed_bit h.speed song) e).1 in
           omega (arith, is)
       bit_low (refused n p) bit e = absurd (two_ways e)
 

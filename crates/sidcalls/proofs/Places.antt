@@ -6,7 +6,7 @@ use mathlib.Core.List.{List, [], ◌∷◌}
 use lib.Dec.{eqb, ltb}
 use Rattle.refusals.specs.Numbers.{Outcome}
 use Rattle.refusals.specs.Numbers.Outcome.{accepted, refused}
-use Rattle.refusals.specs.Numbers.Reason.{memory_size, no_such_song}
+use Rattle.refusals.specs.declared.Reason.TheVariants.{MemorySize, NoSuchSong}
 use Rattle.refusals.specs.Tests.{test, and_then}
 use Rattle.sidheader.specs.Fields.{fields_of}
 use Rattle.sidheader.specs.Payload.{payload_of}
@@ -25,12 +25,12 @@ sid_low f = tests_low (sid_tests f) (accepted (header_of f (fields_of f) (payloa
 
 pub load_low : (f : List ℕ) (cells : ℕ) → LowPlace (load_outcome f cells)
 unfolding load_outcome
-load_low f cells = tests_low (test memory_size (not (eqb cells 65536)) ∷ []) (sid_outcome f) (sid_low f)
+load_low f cells = tests_low (test MemorySize (not (eqb cells 65536)) ∷ []) (sid_outcome f) (sid_low f)
 
 pub speed_low : (f : List ℕ) (song : ℕ) → LowPlace (speed_outcome f song)
 unfolding speed_outcome
 speed_low f song = go (sid_outcome f) (sid_low f)
   where
     go : (o : Outcome Header) → LowPlace o → LowPlace (and_then o (λ h. song_speed h song))
-    go (accepted h) l = tests_low (test no_such_song (eqb song 0 || ltb h.songs song) ∷ []) (accepted (speed_bit h.speed song)) tt
+    go (accepted h) l = tests_low (test NoSuchSong (eqb song 0 || ltb h.songs song) ∷ []) (accepted (speed_bit h.speed song)) tt
     go (refused n p) l = l

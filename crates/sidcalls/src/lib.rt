@@ -9,8 +9,6 @@ ghost use Rattle.sidspeed.specs.Speed.{speed_outcome};
 ghost use Rattle.answers.specs.Answers.{packed, no_value, list_after};
 ghost use Rattle.sidcalls.specs.Lists.{header_numbers};
 
-use sid::{SongSpeed, Tested};
-
 mod tunes;
 
 // internal: the body of tt_sid_read.
@@ -18,8 +16,8 @@ pub fn read(file: &[u8]) -> u64
     ensures { result ≡ packed no_value (sid_outcome file.now) }
 {
     match sid::test(file) {
-        Tested::Refused(x) => answers::refused(x),
-        Tested::Passed(_, _) => 0,
+        Ok(_) => 0,
+        Err(x) => answers::refused(x.reason.number(), x.place),
     }
 }
 
@@ -29,12 +27,12 @@ pub fn fields(file: &[u8], out: &mut [u32]) -> u64
     ensures cells { out.new ≡ list_after header_numbers (sid_outcome file.now) out.old }
 {
     match sid::read(file) {
-        sid::Reading::Refused(x) => answers::refused(x),
-        sid::Reading::Accepted(h) => {
+        Ok(h) => {
             let numbers = tunes::header_numbers(h);
             answers::fill(&numbers, out);
             21
         }
+        Err(x) => answers::refused(x.reason.number(), x.place),
     }
 }
 
@@ -44,8 +42,8 @@ pub fn load(file: &[u8], memory: &mut [u8]) -> u64
     ensures cells { memory.new ≡ memory_after file.now memory.old }
 {
     match sidload::put_payload(file, memory) {
-        Tested::Refused(x) => answers::refused(x),
-        Tested::Passed(_, _) => 0,
+        Ok(_) => 0,
+        Err(x) => answers::refused(x.reason.number(), x.place),
     }
 }
 
@@ -54,7 +52,7 @@ pub fn speed(file: &[u8], song: u32) -> u64
     ensures { result ≡ packed (λ bit. bit) (speed_outcome file.now song) }
 {
     match sidspeed::speed_of_song(file, song as u64) {
-        SongSpeed::Refused(x) => answers::refused(x),
-        SongSpeed::Bit(bit) => bit as u64,
+        Ok(bit) => bit as u64,
+        Err(x) => answers::refused(x.reason.number(), x.place),
     }
 }

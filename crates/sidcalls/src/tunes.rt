@@ -1,40 +1,17 @@
 // A header's fields as a list of numbers.
-ghost use Rattle.std.specs.Prelude.{◌≡◌, drop};
-ghost use Rattle.sidcalls.specs.Lists.{kind_number, flag_number, header_numbers};
-ghost use Rattle.sidcalls.specs.Bounds.{Narrow};
+ghost use Rattle.std.specs.Prelude.{◌≡◌, [], ◌∷◌};
+ghost use Rattle.sidcalls.specs.Lists.{header_numbers};
+ghost use Rattle.sidcalls.specs.Bounds.{Narrow, NarrowSpan};
 
-use sid::{Header, Kind};
+use fields::Span;
+use sid::Header;
 
-fn kind_number(kind: Kind) -> u32
-    ensures { result ≡ kind_number kind }
+// Where a text or the payload stands, and how long it is.
+fn span_numbers(span: Span) -> [u32; 2]
+    requires { NarrowSpan span }
+    ensures { result ≡ span.from ∷ span.len ∷ [] }
 {
-    match kind {
-        Kind::Psid => 0,
-        Kind::Rsid => 1,
-    }
-}
-
-fn flag_number(set: bool) -> u32
-    ensures { result ≡ flag_number set }
-{
-    if set { 1 } else { 0 }
-}
-
-// Where the texts and the payload stand and how long they are: the last eight of the fields.
-fn part_numbers(h: Header) -> [u32; 8]
-    requires { Narrow h }
-    ensures { result ≡ drop 13 (header_numbers h) }
-{
-    [
-        h.title.from as u32,
-        h.title.len as u32,
-        h.author.from as u32,
-        h.author.len as u32,
-        h.released.from as u32,
-        h.released.len as u32,
-        h.payload.from as u32,
-        h.payload.len as u32,
-    ]
+    [span.from as u32, span.len as u32]
 }
 
 // internal: the fields in the order of docs/INTERFACE.md.
@@ -42,12 +19,12 @@ pub fn header_numbers(h: Header) -> [u32; 21]
     requires { Narrow h }
     ensures { result ≡ header_numbers h }
 {
-    let kind = h.kind;
-    let kind_is = kind_number(kind);
-    let basic_is = flag_number(h.basic);
-    let parts = part_numbers(h);
+    let title = span_numbers(h.title);
+    let author = span_numbers(h.author);
+    let released = span_numbers(h.released);
+    let payload = span_numbers(h.payload);
     [
-        kind_is,
+        h.kind as u32,
         h.version as u32,
         h.load as u32,
         h.init as u32,
@@ -55,18 +32,18 @@ pub fn header_numbers(h: Header) -> [u32; 21]
         h.songs as u32,
         h.start as u32,
         h.speed,
-        basic_is,
+        h.basic as u32,
         h.clock as u32,
         h.model as u32,
         h.page as u32,
         h.pages as u32,
-        parts[0],
-        parts[1],
-        parts[2],
-        parts[3],
-        parts[4],
-        parts[5],
-        parts[6],
-        parts[7],
+        title[0],
+        title[1],
+        author[0],
+        author[1],
+        released[0],
+        released[1],
+        payload[0],
+        payload[1],
     ]
 }

@@ -38,6 +38,27 @@ pub struct Payload {
     pub len: usize,
 }
 
+// What a file is made of: its header's fields, and where its payload lies.
+#[derive(Clone, Copy)]
+pub struct Parts {
+    pub fields: Fields,
+    pub payload: Payload,
+}
+
+impl Parts {
+    #[tactic(auto, unfolding(crate::specs::Payload::init_of))]
+    // internal: the effective init address.
+    pub fn init(self) -> u16
+        ensures { result ≡ init_of self.fields self.payload }
+    {
+        if self.fields.init == 0 {
+            self.payload.load
+        } else {
+            self.fields.init
+        }
+    }
+}
+
 // A field that version 1 does not have: it takes it as 0.
 fn added_field(version: u16, field: u16) -> u16
     ensures { result ≡ added version field }
@@ -45,77 +66,48 @@ fn added_field(version: u16, field: u16) -> u16
     if version == 1 { 0 } else { field }
 }
 
+#[tactic(auto, unfolding(crate::specs::Fields::fields_of))]
 // internal: the header's fields.
 pub fn read_fields(s: &[u8]) -> Fields
     ensures { result ≡ fields_of s.now }
 {
-    let magic = fields::be32(s, 0x00);
     let version = fields::be16(s, 0x04);
-    let offset = fields::be16(s, 0x06);
-    let load = fields::be16(s, 0x08);
-    let init = fields::be16(s, 0x0A);
-    let play = fields::be16(s, 0x0C);
-    let songs = fields::be16(s, 0x0E);
-    let start = fields::be16(s, 0x10);
-    let speed = fields::be32(s, 0x12);
-    let flags = fields::be16(s, 0x76);
-    let page = fields::byte_at(s, 0x78);
-    let pages = fields::byte_at(s, 0x79);
-    let reserved = fields::be16(s, 0x7A);
     Fields {
         size: s.len(),
-        magic,
+        magic: fields::be32(s, 0x00),
         version,
-        offset,
-        load,
-        init,
-        play,
-        songs,
-        start,
-        speed,
-        flags: added_field(version, flags),
-        page: added_field(version, page as u16),
-        pages: added_field(version, pages as u16),
-        reserved: added_field(version, reserved),
+        offset: fields::be16(s, 0x06),
+        load: fields::be16(s, 0x08),
+        init: fields::be16(s, 0x0A),
+        play: fields::be16(s, 0x0C),
+        songs: fields::be16(s, 0x0E),
+        start: fields::be16(s, 0x10),
+        speed: fields::be32(s, 0x12),
+        flags: added_field(version, fields::be16(s, 0x76)),
+        page: added_field(version, fields::byte_at(s, 0x78) as u16),
+        pages: added_field(version, fields::byte_at(s, 0x79) as u16),
+        reserved: added_field(version, fields::be16(s, 0x7A)),
     }
 }
 
-// a less b, 0 where b is more.
-fn minus(a: usize, b: usize) -> usize
-    ensures { result ≡ a - b }
-{
-    if b <= a { a - b } else { 0 }
-}
-
+#[tactic(auto, unfolding(crate::specs::Payload::payload_of))]
 // internal: where the payload lies, by the header's fields.
 pub fn payload_of(s: &[u8], x: Fields) -> Payload
     ensures { result ≡ payload_of s.now x }
 {
-    let size = x.size;
-    let load = x.load;
     let offset = x.offset as usize;
-    if load == 0 {
-        let address = fields::le16(s, offset);
+    if x.load == 0 {
         let from = offset + 2;
-        let len = minus(size, from);
         Payload {
-            load: address,
+            load: fields::le16(s, offset),
             from,
-            len,
+            len: x.size.saturating_sub(from),
         }
     } else {
-        let len = minus(size, offset);
         Payload {
-            load,
+            load: x.load,
             from: offset,
-            len,
+            len: x.size.saturating_sub(offset),
         }
     }
-}
-
-// internal: the effective init address.
-pub fn init_of(x: Fields, p: Payload) -> u16
-    ensures { result ≡ init_of x p }
-{
-    if x.init == 0 { p.load } else { x.init }
 }

@@ -2,26 +2,14 @@
 // or the refusal's number and place.
 #![tactic(auto)]
 
-use printing::{write, write_refusal};
-use refusals::Refusal;
-use sid::Reading;
 use std::io;
 use std::io::Write;
-
-fn refuse(out: &mut impl Write, x: Refusal) -> io::Result<()> {
-    write_refusal(out, x)?;
-    write(out, b"\n")?;
-    Ok(())
-}
 
 fn report(out: &mut impl Write, file: &[u8]) -> io::Result<()> {
     let mut memory = [0u8; 65536];
     match sidload::load(file, &mut memory) {
-        Reading::Accepted(_) => {
-            write(out, &memory)?;
-            Ok(())
-        }
-        Reading::Refused(x) => refuse(out, x),
+        Ok(_) => out.write_all(&memory),
+        Err(refusal) => writeln!(out, "{refusal}"),
     }
 }
 

@@ -1,6 +1,7 @@
 -- The outcome of each way through a load, by the size of memory and by the tests. Assumes nothing.
 -- wrong_size   another size
--- put_refused, put-fits, put-done   the file refused; its payload fits, and where it is then
+-- put_refused, put_fits, put_done   the file refused; its payload fits, and where it is then
+-- load_refused, load_done   so of `load`, by the outcome of putting
 use Prim.Native.Nat.{ℕ, ◌+◌, ◌≤◌}
 use mathlib.Core.Path.{◌≡◌, sym}
 use mathlib.Core.List.{List}
@@ -9,11 +10,11 @@ use lib.ListN.{length, take, drop, length-take}
 use borrow.Author.Tests.{eq-eqb, ne_eqb}
 use Rattle.refusals.specs.Numbers.Outcome.{accepted, refused}
 use Rattle.fields.specs.Parts.{put}
-use Rattle.sidheader.specs.declared.Fields.{Fields}
-use Rattle.sidheader.specs.declared.Payload.{Payload}
+use Rattle.sidheader.specs.declared.Parts.{Parts}
 use Rattle.sid.specs.Header.{header_of}
-use Rattle.sid.specs.Answers.{passing, tested_outcome}
+use Rattle.sid.specs.Answers.{tested_outcome}
 use Rattle.sid.specs.Laws.{read-headed, accepted-fits}
+use Rattle.sidload.specs.Laws.{load_headed}
 use Rattle.sidload.specs.Loading.{load_outcome, put_outcome, memory_after}
 
 module _ (f m : List ℕ) where
@@ -28,13 +29,19 @@ module _ (f m : List ℕ) where
         let right = eq-eqb (length m) 65536 size in
         (rw (right, ← e), rw (right, ← read-headed f (refused n place) e))
 
-    module _ (x : Fields) (p : Payload) (e : accepted (passing x p) ≡ tested_outcome f) where
-      pub put-fits : p.load + length (take p.len (drop p.from f)) ≤ length m
+    module _ (t : Parts) (e : accepted t ≡ tested_outcome f) where
+      pub put_fits : t.payload.load + length (take t.payload.len (drop t.payload.from f)) ≤ length m
       unfolding header_of
-      put-fits = omega (arith, accepted-fits f (header_of f x p) (sym (read-headed f (accepted (passing x p)) e)), length-take p.len (drop p.from f))
+      put_fits = omega (arith, accepted-fits f (header_of f t.fields t.payload) (sym (read-headed f (accepted t) e)), length-take t.payload.len (drop t.payload.from f))
 
-      pub put-done : (after : List ℕ) → after ≡ put m p.load (take p.len (drop p.from f)) → (accepted (passing x p) ≡ put_outcome f (length m)) × (after ≡ memory_after f m)
+      pub put_done : (after : List ℕ) → after ≡ put m t.payload.load (take t.payload.len (drop t.payload.from f)) → (accepted t ≡ put_outcome f (length m)) × (after ≡ memory_after f m)
       unfolding put_outcome load_outcome memory_after header_of
-      put-done after c =
+      put_done after c =
           let right = eq-eqb (length m) 65536 size in
-          (rw (right, ← e), rw (right, ← read-headed f (accepted (passing x p)) e) c)
+          (rw (right, ← e), rw (right, ← read-headed f (accepted t) e) c)
+
+  pub load_refused : (n place cells : ℕ) → refused n place ≡ put_outcome f cells → refused n place ≡ load_outcome f cells
+  load_refused n place cells e = load_headed f cells (refused n place) e
+
+  pub load_done : (t : Parts) (cells : ℕ) → accepted t ≡ put_outcome f cells → accepted (header_of f t.fields t.payload) ≡ load_outcome f cells
+  load_done t cells e = load_headed f cells (accepted t) e

@@ -8,20 +8,21 @@ use Rattle.std.proofs.Common.{ap, ◌∙◌, arith, length-take, eqb-true, eq-eq
 use Rattle.logic.specs.Cases.{cases}
 use Rattle.refusals.specs.Numbers.{Outcome}
 use Rattle.refusals.specs.Numbers.Outcome.{accepted, refused}
-use Rattle.refusals.specs.Numbers.Reason.{memory_size}
+use Rattle.refusals.specs.declared.Reason.TheVariants.{MemorySize}
 use Rattle.refusals.specs.Tests.{test, first_of, guarded}
 use Rattle.fields.specs.Parts.{put, part_of}
 use Rattle.fields.proofs.Memory.{length-put}
+use Rattle.sidheader.specs.declared.Parts.{Parts}
 use Rattle.sid.specs.declared.Header.{Header}
-use Rattle.sid.specs.Answers.{sid_outcome, Passing, tested_outcome, headed}
+use Rattle.sid.specs.Answers.{sid_outcome, tested_outcome, headed}
 use Rattle.sid.specs.Laws.{headed-guarded, read-headed, accepted-fits}
 use Rattle.sidload.specs.Loading.{load_outcome, put_outcome, memory_with, memory_after}
 
 -- What putting comes back with, with its header made, is what loading comes back with.
-pub load_headed : (f : List ℕ) (cells : ℕ) (o : Outcome Passing) → o ≡ put_outcome f cells → headed f o ≡ load_outcome f cells
+pub load_headed : (f : List ℕ) (cells : ℕ) (o : Outcome Parts) → o ≡ put_outcome f cells → headed f o ≡ load_outcome f cells
 unfolding put_outcome load_outcome
 load_headed f cells o e =
-    let size = first_of (test memory_size (not (eqb cells 65536)) ∷ []) in
+    let size = first_of (test MemorySize (not (eqb cells 65536)) ∷ []) in
     ap (headed f) e ∙ headed-guarded f size (tested_outcome f) ∙ ap (guarded size) (read-headed f (tested_outcome f) refl)
 
 -- 'Loading leaves every cell but the payload's as it stood': an accepted file's payload is put into a memory

@@ -8,17 +8,18 @@
 use Rattle.std.specs.Prelude.{ℕ, not, List, [], ◌∷◌, length, eqb}
 use Rattle.refusals.specs.Numbers.{Outcome}
 use Rattle.refusals.specs.Numbers.Outcome.{accepted, refused}
-use Rattle.refusals.specs.Numbers.Reason.{memory_size}
+use Rattle.refusals.specs.declared.Reason.TheVariants.{MemorySize}
 use Rattle.refusals.specs.Tests.{test, first_of, guarded}
 use Rattle.fields.specs.Parts.{put, part_of}
+use Rattle.sidheader.specs.declared.Parts.{Parts}
 use Rattle.sid.specs.declared.Header.{Header}
-use Rattle.sid.specs.Answers.{sid_outcome, Passing, tested_outcome}
+use Rattle.sid.specs.Answers.{sid_outcome, tested_outcome}
 
 unfoldable pub load_outcome : List ℕ → ℕ → Outcome Header
-load_outcome f cells = guarded (first_of (test memory_size (not (eqb cells 65536)) ∷ [])) (sid_outcome f)
+load_outcome f cells = guarded (first_of (test MemorySize (not (eqb cells 65536)) ∷ [])) (sid_outcome f)
 
-unfoldable pub put_outcome : List ℕ → ℕ → Outcome Passing
-put_outcome f cells = guarded (first_of (test memory_size (not (eqb cells 65536)) ∷ [])) (tested_outcome f)
+unfoldable pub put_outcome : List ℕ → ℕ → Outcome Parts
+put_outcome f cells = guarded (first_of (test MemorySize (not (eqb cells 65536)) ∷ [])) (tested_outcome f)
 
 abbrev pub memory_with : Outcome Header → List ℕ → List ℕ → List ℕ
 memory_with (accepted h) f m = put m h.load (part_of f h.payload)

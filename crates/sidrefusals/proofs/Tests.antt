@@ -37,3 +37,9 @@ pub no_payload_lem : (x : Fields)
     → addressed x && ltb (data_bytes x) 3 || not (addressed x) && eqb (data_bytes x) 0
     ≡ addressed x && ltb x.size (x.offset + 3) || not (addressed x) && leb x.size x.offset
 no_payload_lem x = rw (few-after x.size x.offset 3 (lit< tt), none_after x.size x.offset)
+
+-- test 10 without a sum that could pass a word
+pub past_lem : (load len : ℕ) → load < 65536 → ltb (65536 - load) len ≡ ltb 65536 (load + len)
+past_lem load len h = and_same (ltb (65536 - load) len) (ltb 65536 (load + len))
+    (λ e. let p = ltb-true (65536 - load) len e in lt-ltb 65536 (load + len) (omega arith))
+    (λ e. let p = ltb-true 65536 (load + len) e in lt-ltb (65536 - load) len (omega arith))

@@ -4,8 +4,9 @@
 -- payload_tests   the tests
 -- sid_tests       1 to 13 of a file, whole
 use Rattle.std.specs.Prelude.{ℕ, ◌+◌, ◌-◌, Bool, not, ◌&&◌, ◌||◌, List, [], ◌∷◌, ◌++◌, ltb, eqb}
-use Rattle.refusals.specs.Numbers.Reason.{no_payload, past_memory, rsid_load, rsid_init, free_pages}
-use Rattle.refusals.specs.Tests.{Test, test}
+use Rattle.refusals.specs.declared.Reason.TheVariants.{NoPayload, PastMemory, RsidLoad, RsidInit, FreePages}
+use Rattle.refusals.specs.declared.Test.{Test}
+use Rattle.refusals.specs.Tests.{test}
 use Rattle.sidheader.specs.declared.Fields.{Fields}
 use Rattle.sidheader.specs.declared.Payload.{Payload}
 use Rattle.sidheader.specs.Fields.{fields_of, basic}
@@ -22,15 +23,15 @@ barred_init address = ltb address 0x07E8 || between 0xA000 0xBFFF address || bet
 abbrev pub payload_tests : Fields → Payload → List Test
 payload_tests x p =
     -- 9: load field 0 and fewer than 3 data bytes, or load field not 0 and no data
-    test no_payload (addressed x && ltb (data_bytes x) 3 || not (addressed x) && eqb (data_bytes x) 0)
+    test NoPayload (addressed x && ltb (data_bytes x) 3 || not (addressed x) && eqb (data_bytes x) 0)
     -- 10: load address plus payload length above 65,536
-    ∷ test past_memory (ltb 65536 (p.load + p.len))
+    ∷ test PastMemory (ltb 65536 (p.load + p.len))
     -- 11: RSID load address below $07E8
-    ∷ test rsid_load (is_rsid x && ltb p.load 0x07E8)
+    ∷ test RsidLoad (is_rsid x && ltb p.load 0x07E8)
     -- 12: RSID with bit 1 (BASIC) set and init field not 0; or without it, the effective init barred
-    ∷ test rsid_init (is_rsid x && (basic x && not (eqb x.init 0) || not (basic x) && barred_init (init_of x p)))
+    ∷ test RsidInit (is_rsid x && (basic x && not (eqb x.init 0) || not (basic x) && barred_init (init_of x p)))
     -- 13: the stated free pages, as Pages has it
-    ∷ test free_pages (bad_pages x p)
+    ∷ test FreePages (bad_pages x p)
     ∷ []
 
 unfoldable pub sid_tests : List ℕ → List Test

@@ -7,11 +7,11 @@ ghost use Rattle.sidrefusals.specs.HeaderTests.{header_tests};
 ghost use Rattle.sidrefusals.specs.Pages.{any_page, between, bad_pages};
 ghost use Rattle.sidrefusals.specs.PayloadTests.{barred_init, payload_tests};
 
-use refusals::Verdict;
-use sidheader::{Fields, Payload};
+use refusals::Reason;
+use sidheader::{Fields, Parts};
 
 // internal: the tests of the header's fields, 1 to 8.
-pub fn test_header(x: Fields) -> Verdict
+pub fn test_header(x: Fields) -> Result<(), Reason>
     ensures { result ≡ first_of (header_tests x) }
 {
     let psid = x.magic == sidheader::PSID;
@@ -29,28 +29,29 @@ pub fn test_header(x: Fields) -> Verdict
     let music = x.flags % 2 == 1;
     // a branch at each test, for speed: made without one, all of them are made (docs/SPEED.md)
     if short {
-        Verdict::Failed(refusals::TOO_SHORT)
+        Err(Reason::TooShort)
     } else if magic {
-        Verdict::Failed(refusals::MAGIC)
+        Err(Reason::Magic)
     } else if version {
-        Verdict::Failed(refusals::VERSION)
+        Err(Reason::Version)
     } else if short_of_two {
-        Verdict::Failed(refusals::TOO_SHORT)
+        Err(Reason::TooShort)
     } else if offset {
-        Verdict::Failed(refusals::DATA_OFFSET)
+        Err(Reason::DataOffset)
     } else if reserved {
-        Verdict::Failed(refusals::RSID_RESERVED)
+        Err(Reason::RsidReserved)
     } else if songs {
-        Verdict::Failed(refusals::SONGS)
+        Err(Reason::Songs)
     } else if bits {
-        Verdict::Failed(refusals::RESERVED_BITS)
+        Err(Reason::ReservedBits)
     } else if music {
-        Verdict::Failed(refusals::MUS_PAYLOAD)
+        Err(Reason::MusPayload)
     } else {
-        Verdict::Passed
+        Ok(())
     }
 }
 
+#[tactic(auto, unfolding(crate::specs::PayloadTests::barred_init))]
 // An address at which the init of an RSID may not stand.
 fn is_barred_init(address: u16) -> bool
     ensures { result ≡ barred_init address }
@@ -79,32 +80,34 @@ fn last_page(load: usize, len: usize) -> usize
 }
 
 // The stated free pages cannot be free.
-fn has_bad_pages(x: Fields, p: Payload) -> bool
-    requires { p.len < 2 ^ 63 }
-    ensures { result ≡ bad_pages x p }
+fn has_bad_pages(parts: Parts) -> bool
+    requires { parts.payload.load + parts.payload.len < 2 ^ 64 }
+    ensures { result ≡ bad_pages parts.fields parts.payload }
 {
-    let start = x.page;
-    let count = x.pages;
-    let load = p.load as usize;
+    let start = parts.fields.page;
+    let count = parts.fields.pages;
     if (start == 0) | (start == 0xFF) {
         return count != 0;
     }
-    let last = last_page(load, p.len);
+    let load = parts.payload.load as usize;
+    let last = last_page(load, parts.payload.len);
     let touched = meets(start, count, load / 256, last);
     let low = meets(start, count, 0x00, 0x03);
     let rom = meets(start, count, 0xA0, 0xBF);
     let high = meets(start, count, 0xD0, 0xFF);
-    let taken = touched | (x.magic == sidheader::RSID) & (low | rom | high);
+    let rsid = parts.fields.magic == sidheader::RSID;
+    let taken = touched | rsid & (low | rom | high);
     let over = 256 < start as usize + count as usize;
     (count == 0) | over | taken
 }
 
-#[tactic(auto, using(crate::proofs::Tests::no_payload_lem))]
+#[tactic(auto, using(crate::proofs::Tests::no_payload_lem, crate::proofs::Tests::past_lem))]
 // internal: the tests of where the payload lies, 9 to 13.
-pub fn test_payload(x: Fields, p: Payload) -> Verdict
-    requires { p.len < 2 ^ 63 }
-    ensures { result ≡ first_of (payload_tests x p) }
+pub fn test_payload(parts: Parts) -> Result<(), Reason>
+    ensures { result ≡ first_of (payload_tests parts.fields parts.payload) }
 {
+    let x = parts.fields;
+    let p = parts.payload;
     let size = x.size;
     let offset = x.offset as usize;
     let load = p.load as usize;
@@ -112,21 +115,21 @@ pub fn test_payload(x: Fields, p: Payload) -> Verdict
     let own = x.load == 0;
     let basic = x.flags / 2 % 2 == 1;
     let none = own & (size < offset + 3) | !own & (size <= offset);
-    let past = 65536 < load + p.len;
+    let past = 65536 - load < p.len;
     let low = rsid & (load < 0x07E8);
-    let barred = is_barred_init(sidheader::init_of(x, p));
+    let barred = is_barred_init(parts.init());
     let init = rsid & (basic & (x.init != 0) | !basic & barred);
     if none {
-        Verdict::Failed(refusals::NO_PAYLOAD)
+        Err(Reason::NoPayload)
     } else if past {
-        Verdict::Failed(refusals::PAST_MEMORY)
+        Err(Reason::PastMemory)
     } else if low {
-        Verdict::Failed(refusals::RSID_LOAD)
+        Err(Reason::RsidLoad)
     } else if init {
-        Verdict::Failed(refusals::RSID_INIT)
-    } else if has_bad_pages(x, p) {
-        Verdict::Failed(refusals::FREE_PAGES)
+        Err(Reason::RsidInit)
+    } else if has_bad_pages(parts) {
+        Err(Reason::FreePages)
     } else {
-        Verdict::Passed
+        Ok(())
     }
 }

@@ -2,11 +2,10 @@
 // tools/sidvectors makes the files and says what each must give.
 #![tactic(auto)]
 
-use fields::Span;
-use files::Loaded;
-use printing::{write, write_after, write_failure, write_refusal};
+use files::LoadError;
+use printing::write_failure;
 use refusals::Refusal;
-use sid::{Header, Kind, Reading, SongSpeed};
+use sid::{Header, Kind};
 use std::io;
 use std::io::Write;
 use tune::Piece;
@@ -14,171 +13,111 @@ use tune::Piece;
 // What a cell of memory holds before a load; no payload has this byte.
 const EMPTY: u8 = 0xA5;
 
-// The cells that a load has changed: the first, how many, and the sum of what they hold.
-#[derive(Clone, Copy)]
-struct Cells {
-    first: usize,
-    count: usize,
-    sum: usize,
-}
-
-fn wide(x: u8) -> usize {
-    x as usize
-}
-
-fn changed(memory: &[u8]) -> Cells {
+// The end of a line with the cells that a load has changed: the first, how many, and the sum of what they
+// hold.
+fn show_cells(out: &mut impl Write, memory: &[u8]) -> io::Result<()> {
     let mut first = 0;
     let mut count: usize = 0;
     let mut sum: usize = 0;
-    for i in (0..memory.len()).rev() {
-        if memory[i] != EMPTY {
-            first = i;
+    for (i, &cell) in memory.iter().enumerate() {
+        if cell != EMPTY {
+            if count == 0 {
+                first = i;
+            }
             count = count.wrapping_add(1);
-            sum = sum.wrapping_add(wide(memory[i]));
+            sum = sum.wrapping_add(cell as usize);
         }
     }
-    Cells { first, count, sum }
-}
-
-fn show_span(out: &mut impl Write, words: &[u8], span: Span) -> io::Result<()> {
-    write_after(out, words, span.from as u64)?;
-    write_after(out, b" ", span.len as u64)?;
-    Ok(())
-}
-
-fn show_refusal(out: &mut impl Write, x: Refusal) -> io::Result<()> {
-    write(out, b" refused ")?;
-    write_refusal(out, x)?;
-    Ok(())
-}
-
-fn show_cells(out: &mut impl Write, memory: &[u8]) -> io::Result<()> {
-    let c = changed(memory);
-    write_after(out, b" cells ", c.first as u64)?;
-    write_after(out, b" ", c.count as u64)?;
-    write_after(out, b" ", c.sum as u64)?;
-    write(out, b"\n")?;
-    Ok(())
-}
-
-fn show_kind(out: &mut impl Write, kind: Kind) -> io::Result<()> {
-    match kind {
-        Kind::Psid => {
-            write(out, b" accepted PSID")?;
-            Ok(())
-        }
-        Kind::Rsid => {
-            write(out, b" accepted RSID")?;
-            Ok(())
-        }
-    }
+    writeln!(out, " cells {first} {count} {sum}")
 }
 
 fn show_player(out: &mut impl Write, h: Header) -> io::Result<()> {
-    let kind = h.kind;
-    show_kind(out, kind)?;
-    write_after(out, b" version ", h.version as u64)?;
-    write_after(out, b" load ", h.load as u64)?;
-    write_after(out, b" init ", h.init as u64)?;
-    write_after(out, b" play ", h.play as u64)?;
-    write_after(out, b" songs ", h.songs as u64)?;
-    write_after(out, b" start ", h.start as u64)?;
-    write_after(out, b" speed ", h.speed as u64)?;
-    Ok(())
+    let format = match h.kind {
+        Kind::Psid => "PSID",
+        Kind::Rsid => "RSID",
+    };
+    write!(out, " accepted {format} version {}", h.version)?;
+    write!(out, " load {} init {} play {}", h.load, h.init, h.play)?;
+    write!(
+        out,
+        " songs {} start {} speed {}",
+        h.songs, h.start, h.speed
+    )
 }
 
 fn show_parts(out: &mut impl Write, h: Header) -> io::Result<()> {
-    let page = h.page as u64;
-    let pages = h.pages as u64;
-    write_after(out, b" basic ", h.basic as u64)?;
-    write_after(out, b" clock ", h.clock as u64)?;
-    write_after(out, b" model ", h.model as u64)?;
-    write_after(out, b" pages ", page)?;
-    write_after(out, b" ", pages)?;
-    show_span(out, b" title ", h.title)?;
-    show_span(out, b" author ", h.author)?;
-    show_span(out, b" released ", h.released)?;
-    show_span(out, b" payload ", h.payload)
+    write!(out, " basic {} clock {}", h.basic as u8, h.clock)?;
+    write!(out, " model {} pages {} {}", h.model, h.page, h.pages)?;
+    write!(out, " title {} {}", h.title.from, h.title.len)?;
+    write!(out, " author {} {}", h.author.from, h.author.len)?;
+    write!(out, " released {} {}", h.released.from, h.released.len)?;
+    write!(out, " payload {} {}", h.payload.from, h.payload.len)
 }
 
-fn show_reading(out: &mut impl Write, answer: Reading) -> io::Result<()> {
+fn show_reading(out: &mut impl Write, answer: Result<Header, Refusal>) -> io::Result<()> {
     match answer {
-        Reading::Accepted(h) => {
+        Ok(h) => {
             show_player(out, h)?;
             show_parts(out, h)
         }
-        Reading::Refused(x) => show_refusal(out, x),
+        Err(refusal) => write!(out, " refused {refusal}"),
     }
 }
 
 // A line for a load into a memory that is not of 65,536 cells, or that is.
 fn load_line(out: &mut impl Write, name: &[u8], file: &[u8], memory: &mut [u8]) -> io::Result<()> {
     let answer = sidload::load(file, memory);
-    write(out, name)?;
-    write_after(out, b" memory ", memory.len() as u64)?;
+    out.write_all(name)?;
+    write!(out, " memory {}", memory.len())?;
     match answer {
-        Reading::Accepted(_) => {
-            write(out, b" loaded")?;
-        }
-        Reading::Refused(x) => show_refusal(out, x)?,
+        Ok(_) => write!(out, " loaded")?,
+        Err(refusal) => write!(out, " refused {refusal}")?,
     }
     show_cells(out, memory)
 }
 
-// A song's speed bit, or the refusal's number.
-fn show_speed(out: &mut impl Write, words: &[u8], answer: SongSpeed) -> io::Result<()> {
-    match answer {
-        SongSpeed::Bit(b) => {
-            write_after(out, words, b as u64)?;
-            Ok(())
-        }
-        SongSpeed::Refused(x) => {
-            write_after(out, words, x.number as u64)?;
-            Ok(())
-        }
-    }
+// The songs that a line of speeds asks for, each after its word; of a file of so many songs the last two.
+fn asked(songs: u16) -> [(&'static str, u64); 10] {
+    [
+        ("0", 0),
+        ("1", 1),
+        ("2", 2),
+        ("3", 3),
+        ("31", 31),
+        ("32", 32),
+        ("33", 33),
+        ("last", songs as u64),
+        ("next", songs as u64 + 1),
+        ("greatest", u64::MAX),
+    ]
 }
 
-fn show_song(out: &mut impl Write, file: &[u8], words: &[u8], song: u64) -> io::Result<()> {
-    show_speed(out, words, sidspeed::speed_of_song(file, song))
+// A song's speed bit, or the refusal's number.
+fn show_speed(out: &mut impl Write, word: &str, answer: Result<u32, Refusal>) -> io::Result<()> {
+    match answer {
+        Ok(bit) => write!(out, " {word}: {bit}"),
+        Err(refusal) => write!(out, " {word}: {}", refusal.reason.number()),
+    }
 }
 
 // A line with the speed bits of songs, or the refusal's number.
 fn song_line(out: &mut impl Write, name: &[u8], file: &[u8], songs: u16) -> io::Result<()> {
-    write(out, name)?;
-    show_song(out, file, b" song 0: ", 0)?;
-    show_song(out, file, b" 1: ", 1)?;
-    show_song(out, file, b" 2: ", 2)?;
-    show_song(out, file, b" 3: ", 3)?;
-    show_song(out, file, b" 31: ", 31)?;
-    show_song(out, file, b" 32: ", 32)?;
-    show_song(out, file, b" 33: ", 33)?;
-    show_song(out, file, b" last: ", songs as u64)?;
-    show_song(out, file, b" next: ", songs as u64 + 1)?;
-    show_song(out, file, b" greatest: ", u64::MAX)?;
-    write(out, b"\n")?;
-    Ok(())
-}
-
-fn show_header_song(out: &mut impl Write, h: Header, words: &[u8], song: u64) -> io::Result<()> {
-    show_speed(out, words, sid::song_speed(h, song))
+    out.write_all(name)?;
+    write!(out, " song")?;
+    for (word, song) in asked(songs) {
+        show_speed(out, word, sidspeed::speed_of_song(file, song))?;
+    }
+    writeln!(out)
 }
 
 // The same line by the header in hand.
 fn header_line(out: &mut impl Write, name: &[u8], h: Header, songs: u16) -> io::Result<()> {
-    write(out, name)?;
-    show_header_song(out, h, b" header 0: ", 0)?;
-    show_header_song(out, h, b" 1: ", 1)?;
-    show_header_song(out, h, b" 2: ", 2)?;
-    show_header_song(out, h, b" 3: ", 3)?;
-    show_header_song(out, h, b" 31: ", 31)?;
-    show_header_song(out, h, b" 32: ", 32)?;
-    show_header_song(out, h, b" 33: ", 33)?;
-    show_header_song(out, h, b" last: ", songs as u64)?;
-    show_header_song(out, h, b" next: ", songs as u64 + 1)?;
-    show_header_song(out, h, b" greatest: ", u64::MAX)?;
-    write(out, b"\n")?;
-    Ok(())
+    out.write_all(name)?;
+    write!(out, " header")?;
+    for (word, song) in asked(songs) {
+        show_speed(out, word, sid::song_speed(h, song))?;
+    }
+    writeln!(out)
 }
 
 // The end of a line with the parts of a file: the texts in brackets, and the payload's length.
@@ -189,22 +128,19 @@ fn show_pieces(
     released: &[u8],
     payload: &[u8],
 ) -> io::Result<()> {
-    write(out, b" [")?;
-    write(out, title)?;
-    write(out, b"] [")?;
-    write(out, author)?;
-    write(out, b"] [")?;
-    write(out, released)?;
-    write(out, b"]")?;
-    write_after(out, b" payload ", payload.len() as u64)?;
-    write(out, b"\n")?;
-    Ok(())
+    write!(out, " [")?;
+    out.write_all(title)?;
+    write!(out, "] [")?;
+    out.write_all(author)?;
+    write!(out, "] [")?;
+    out.write_all(released)?;
+    writeln!(out, "] payload {}", payload.len())
 }
 
 // A line with the parts of a file, by the spans of its header.
 fn piece_line(out: &mut impl Write, name: &[u8], file: &[u8], h: Header) -> io::Result<()> {
-    write(out, name)?;
-    write(out, b" pieces")?;
+    out.write_all(name)?;
+    write!(out, " pieces")?;
     show_pieces(
         out,
         fields::span_part(file, h.title),
@@ -223,24 +159,25 @@ fn tune_line(
     n: usize,
 ) -> io::Result<()> {
     let cut = fields::part(file, 0, n);
-    let title = tune::shown(cut, h, Piece::Title);
-    let author = tune::shown(cut, h, Piece::Author);
-    let released = tune::shown(cut, h, Piece::Released);
-    let payload = tune::shown(cut, h, Piece::Payload);
-    write(out, name)?;
-    write_after(out, b" tune ", n as u64)?;
-    show_pieces(out, title, author, released, payload)
+    out.write_all(name)?;
+    write!(out, " tune {n}")?;
+    show_pieces(
+        out,
+        tune::shown(cut, h, Piece::Title),
+        tune::shown(cut, h, Piece::Author),
+        tune::shown(cut, h, Piece::Released),
+        tune::shown(cut, h, Piece::Payload),
+    )
 }
 
 // The parts of a file by its header, then those of its tune, whole and cut within the payload, the author and
 // the title, and before them.
 fn show_tunes(out: &mut impl Write, name: &[u8], file: &[u8], h: Header) -> io::Result<()> {
     piece_line(out, name, file, h)?;
-    tune_line(out, name, file, h, file.len())?;
-    tune_line(out, name, file, h, 128)?;
-    tune_line(out, name, file, h, 60)?;
-    tune_line(out, name, file, h, 24)?;
-    tune_line(out, name, file, h, 22)
+    for n in [file.len(), 128, 60, 24, 22] {
+        tune_line(out, name, file, h, n)?;
+    }
+    Ok(())
 }
 
 // The lines that only the first two files have: loads into memories of other sizes.
@@ -258,15 +195,15 @@ fn report_more(out: &mut impl Write, name: &[u8], file: &[u8]) -> io::Result<()>
 fn report(out: &mut impl Write, name: &[u8], file: &[u8], first_two: bool) -> io::Result<()> {
     let mut memory = [EMPTY; 65536];
     let answer = sid::read(file);
-    write(out, name)?;
+    out.write_all(name)?;
     show_reading(out, answer)?;
-    write(out, b"\n")?;
+    writeln!(out)?;
     load_line(out, name, file, &mut memory)?;
     if first_two {
         report_more(out, name, file)?;
     }
     match answer {
-        Reading::Accepted(h) => {
+        Ok(h) => {
             let songs = h.songs;
             if 1 < songs {
                 song_line(out, name, file, songs)?;
@@ -276,7 +213,7 @@ fn report(out: &mut impl Write, name: &[u8], file: &[u8], first_two: bool) -> io
                 show_tunes(out, name, file, h)?;
             }
         }
-        Reading::Refused(_) => {
+        Err(_) => {
             if first_two {
                 song_line(out, name, file, 1)?;
             }
@@ -293,14 +230,15 @@ fn report_argument(rt: &HostRuntime, i: usize) -> io::Result<bool> {
         return Ok(false);
     };
     match files::read_file(rt, &name[..n], &mut file) {
-        Loaded::Bytes(len) => report(
+        Ok(len) => report(
             &mut rt.stdout(),
             &name[..n],
             fields::part(&file, 0, len),
             i <= 2,
         )?,
-        Loaded::NotOpened(error) => write_failure(&mut rt.stderr(), &name[..n], error)?,
-        Loaded::NotRead(error) => write_failure(&mut rt.stderr(), &name[..n], error)?,
+        Err(LoadError::NotOpened(error) | LoadError::NotRead(error)) => {
+            write_failure(&mut rt.stderr(), &name[..n], error)?
+        }
     }
     Ok(true)
 }

@@ -6,7 +6,7 @@ ghost use Rattle.std.specs.Prelude.{◌≡◌};
 ghost use Rattle.std.proofs.Math.IntN.{sub_ℕ};
 ghost use Rattle.signed.specs.Signs.{parts_of};
 
-// A number's sign and its size.
+// A number's sign and its size. Each number has both, so an enum of the two signs would be no plainer.
 #[derive(Clone, Copy)]
 pub struct Parts {
     pub negative: bool,
@@ -24,15 +24,8 @@ pub fn less(a: u16, b: u16) -> i32
 pub fn parts_of(v: i32) -> Parts
     ensures { result ≡ parts_of v }
 {
-    if v < 0 {
-        Parts {
-            negative: true,
-            size: (-1 - v) as u32 + 1,
-        }
-    } else {
-        Parts {
-            negative: false,
-            size: v as u32,
-        }
+    Parts {
+        negative: v < 0,
+        size: v.unsigned_abs(),
     }
 }

@@ -12,15 +12,16 @@
 use Rattle.std.specs.Prelude.{ℕ, ◌+◌, ◌*◌, ◌-◌, ◌/◌, ◌%◌, Bool, true, false, ◌&&◌, ◌||◌, cond, eqb, leb, ltb}
 use Rattle.meaning.specs.declared.Bump.{Bump}
 use Rattle.meaning.specs.declared.Bump.TheVariants.{Up, Down}
-use Rattle.meaning.specs.Answers.{Bytes}
-use Rattle.refusals.specs.Numbers.{Outcome, number_of, no_pair}
+use Rattle.meaning.specs.declared.Bytes.{Bytes}
+use Rattle.refusals.specs.declared.Reason.TheVariants.{NoPair}
+use Rattle.refusals.specs.Numbers.{Outcome, number_of}
 use Rattle.refusals.specs.Numbers.Outcome.{accepted, refused}
 
 abbrev pub pair : ℕ → ℕ → Outcome Bytes
 pair a b = accepted (record { first = a; second = b })
 
 abbrev pub no_bytes : Outcome Bytes
-no_bytes = refused (number_of no_pair) 0
+no_bytes = refused (number_of NoPair) 0
 
 abbrev pub bumped : Bump → Outcome Bytes
 bumped Up = pair 1 0x03

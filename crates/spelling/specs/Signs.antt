@@ -7,24 +7,22 @@
 -- dtn_of, dtn              '11 bits, less 2,048 when bit 4 is set'
 -- tps_of, tps              'TPS by 004', zero 0E
 -- rtp_of, rtp              'RTP with octaves and remainder of one sign, zero 5B'
-use Rattle.std.specs.Prelude.{ℕ, ◌+◌, ◌*◌, ◌-◌, ◌/◌, ◌%◌, cond, leb, ltb, ℤ}
+use Rattle.std.specs.Prelude.{Option, Some, None, ℕ, ◌+◌, ◌*◌, ◌-◌, ◌/◌, ◌%◌, cond, leb, ltb, ℤ}
 use Rattle.signed.specs.declared.Parts.{Parts}
 use Rattle.signed.specs.Signs.{parts_of}
-use Rattle.meaning.specs.Answers.{Bytes}
-use Rattle.spelling.specs.declared.signs.Slot.{Slot}
-use Rattle.spelling.specs.declared.signs.Slot.TheVariants.{In, Out}
+use Rattle.meaning.specs.declared.Bytes.{Bytes}
 use Rattle.spelling.specs.Counts.{pair, no_bytes, alone, joined}
 use Rattle.refusals.specs.Numbers.{Outcome}
 
-abbrev pub slot_of : Parts → ℕ → ℕ → ℕ → Slot
+abbrev pub slot_of : Parts → ℕ → ℕ → ℕ → Option ℕ
 slot_of p below above whole =
     cond p.negative
-    (cond (leb p.size below) (In (whole - p.size)) Out)
-    (cond (leb p.size above) (In p.size) Out)
+    (cond (leb p.size below) (Some (whole - p.size)) None)
+    (cond (leb p.size above) (Some p.size) None)
 
-abbrev pub of_slot : (ℕ → Outcome Bytes) → Slot → Outcome Bytes
-of_slot f (In n) = f n
-of_slot f Out = no_bytes
+abbrev pub of_slot : (ℕ → Outcome Bytes) → Option ℕ → Outcome Bytes
+of_slot f (Some n) = f n
+of_slot f None = no_bytes
 
 abbrev pub spelled_signed : ℕ → ℤ → ℕ → ℕ → Outcome Bytes
 spelled_signed first v below above = of_slot (λ n. alone first n 255) (slot_of (parts_of v) below above 256)

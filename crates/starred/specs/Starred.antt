@@ -10,13 +10,12 @@
 -- starred                 the table, in the paper's order, 01 83 as corrected by request (ii); of RSID the
 --                         effective init by the field, then by the load address where the field is 0
 -- AllHold, starred_hold   each sum of the table is right
-use Rattle.std.specs.Prelude.{ℕ, ◌/◌, ◌%◌, ◌≡◌, refl as ok, Bool, true, false, List, [], ◌∷◌, ◌++◌, eqb, ℤ, pos, negsuc, replicate}
+use Rattle.std.specs.Prelude.{Ok, Err, ℕ, ◌/◌, ◌%◌, ◌≡◌, refl as ok, Bool, true, false, List, [], ◌∷◌, ◌++◌, eqb, ℤ, pos, negsuc, replicate}
 use Rattle.logic.specs.Facts.{◌and◌}
 use Rattle.refusals.specs.Numbers.{Outcome}
 use Rattle.refusals.specs.Numbers.Outcome.{accepted, refused}
-use Rattle.refusals.specs.declared.Verdict.{Verdict}
-use Rattle.refusals.specs.declared.Verdict.TheVariants.{Passed, Failed}
-use Rattle.refusals.specs.Tests.{first_of}
+use Rattle.refusals.specs.declared.Reason.TheVariants.{RsidInit}
+use Rattle.refusals.specs.Tests.{Verdict, first_of}
 use Rattle.meaning.specs.declared.Duration.{Duration}
 use Rattle.meaning.specs.declared.Duration.TheVariants.{Quarter, SixtyFourth}
 use Rattle.meaning.specs.declared.Shape.{Shape}
@@ -98,13 +97,13 @@ starred =
     ∷ sounds 0x47 (pitch B Sharp 7) (pos 96)
     ∷ means 0x6E 0xF8 (refused 28 0)
     ∷ means 0x01 0x83 (accepted (Def 16))
-    ∷ rsid 0x07E8 0x07E8 0x1000 Passed
-    ∷ rsid 0x9FFF 0x9FFF 0x1000 Passed
-    ∷ rsid 0x07E7 0x07E7 0x1000 (Failed 12)
-    ∷ rsid 0xA000 0xA000 0x1000 (Failed 12)
-    ∷ rsid 0x07E8 0 0x07E8 Passed
-    ∷ rsid 0x9FFF 0 0x9FFF Passed
-    ∷ rsid 0xA000 0 0xA000 (Failed 12)
+    ∷ rsid 0x07E8 0x07E8 0x1000 (Ok tt)
+    ∷ rsid 0x9FFF 0x9FFF 0x1000 (Ok tt)
+    ∷ rsid 0x07E7 0x07E7 0x1000 (Err RsidInit)
+    ∷ rsid 0xA000 0xA000 0x1000 (Err RsidInit)
+    ∷ rsid 0x07E8 0 0x07E8 (Ok tt)
+    ∷ rsid 0x9FFF 0 0x9FFF (Ok tt)
+    ∷ rsid 0xA000 0 0xA000 (Err RsidInit)
     ∷ []
 
 abbrev pub AllHold : List Sum → Type 0

@@ -1,5 +1,6 @@
 -- Document 01, 'MUS container': 'within a voice first 27 to 29 pair by pair (at one pair the lower number),
 -- then 30 and 31 pair by pair'.
+-- Found, Clear, At      what tests made pair by pair find: nothing, or a reason at a pair by its number
 -- found_at, first_at   tests pair by pair: the first that applies, with the number of its pair
 -- is_last             whether no pair is left
 -- pairs_tests         27 to 29 for each pair of a voice
@@ -9,19 +10,29 @@
 use Rattle.std.specs.Prelude.{ℕ, ◌+◌, Bool, true, false, List, [], ◌∷◌}
 use Rattle.meaning.specs.declared.Meaning.{Meaning}
 use Rattle.refusals.specs.Numbers.{Outcome}
-use Rattle.refusals.specs.Tests.{Test, first_of, None}
-use Rattle.refusals.specs.declared.Verdict.{Verdict}
-use Rattle.refusals.specs.declared.Verdict.TheVariants.{Passed, Failed}
+use Rattle.refusals.specs.declared.Test.{Test}
+use Rattle.refusals.specs.Tests.{first_of, None}
+use Rattle.refusals.specs.Tests.{Verdict}
+use Rattle.std.specs.Prelude.{Result, Ok, Err}
+use Rattle.refusals.specs.declared.Reason.{Reason}
 use Rattle.kind.specs.Kinds.{kind_of}
 use Rattle.structure.specs.declared.Finding.{Finding}
-use Rattle.structure.specs.declared.Finding.TheVariants.{Clear, At}
 use Rattle.structure.specs.Tests.{pair_tests, Nesting, nesting_tests, nesting_after, start}
 
-abbrev pub found_at : Verdict → ℕ → Finding → Finding
-found_at Passed i later = later
-found_at (Failed n) i later = At n i
+abbrev pub Found : Type 0
+Found = Result Unit Finding
 
-unfoldable pub first_at : ℕ → List (List Test) → Finding
+abbrev pub Clear : Found
+Clear = Ok tt
+
+abbrev pub At : Reason → ℕ → Found
+At r i = Err (record { reason = r; pair = i })
+
+abbrev pub found_at : Verdict → ℕ → Found → Found
+found_at (Ok u) i later = later
+found_at (Err r) i later = At r i
+
+unfoldable pub first_at : ℕ → List (List Test) → Found
 first_at i [] = Clear
 first_at i (ts ∷ later) = found_at (first_of ts) i (first_at (i + 1) later)
 
@@ -37,10 +48,10 @@ unfoldable pub nestings_tests : Nesting → List (Outcome Meaning) → List (Lis
 nestings_tests o [] = []
 nestings_tests o (m ∷ ms) = nesting_tests (kind_of m) o ∷ nestings_tests (nesting_after (kind_of m) o) ms
 
-unfoldable pub pairs_finding : List (Outcome Meaning) → Finding
+unfoldable pub pairs_finding : List (Outcome Meaning) → Found
 pairs_finding v = first_at 0 (pairs_tests v)
 
-unfoldable pub structure_finding : List (Outcome Meaning) → Finding
+unfoldable pub structure_finding : List (Outcome Meaning) → Found
 structure_finding v = first_at 0 (nestings_tests start v)
 
 unfoldable pub AllNone : List (List Test) → Type 0

@@ -16,8 +16,10 @@
 -- nesting_after            what is open and closed after a pair
 -- start                   what is open and closed before the first pair: nothing
 use Rattle.std.specs.Prelude.{ℕ, Bool, true, false, not, ◌||◌, cond, List, [], ◌∷◌, eqb}
-use Rattle.refusals.specs.Numbers.{number_of, unassigned_pair, value_range, hlt_misplaced, structure, hed_zero}
-use Rattle.refusals.specs.Tests.{Test, test}
+use Rattle.refusals.specs.Numbers.{number_of}
+use Rattle.refusals.specs.declared.Reason.TheVariants.{UnassignedPair, ValueRange, HltMisplaced, Structure, HedZero}
+use Rattle.refusals.specs.declared.Test.{Test}
+use Rattle.refusals.specs.Tests.{test}
 use Rattle.kind.specs.declared.Kind.{Kind}
 use Rattle.kind.specs.declared.Kind.TheVariants.{Event, Hed, Tal, Def, End, Cal, Hlt, Bad}
 use Rattle.bodies.specs.Order.{also, none_closed}
@@ -30,7 +32,7 @@ is_bad number (Def k) = false
 is_bad number End = false
 is_bad number (Cal k) = false
 is_bad number Hlt = false
-is_bad number (Bad n) = eqb n number
+is_bad number (Bad r) = eqb (number_of r) number
 
 abbrev pub is_hlt : Kind → Bool
 is_hlt Event = false
@@ -40,16 +42,16 @@ is_hlt (Def k) = false
 is_hlt End = false
 is_hlt (Cal k) = false
 is_hlt Hlt = true
-is_hlt (Bad n) = false
+is_hlt (Bad r) = false
 
 abbrev pub misplaced_hlt : Kind → Bool → Bool
 misplaced_hlt z last = cond (is_hlt z) (not last) last
 
 abbrev pub pair_tests : Kind → Bool → List Test
 pair_tests z last =
-    test unassigned_pair (is_bad (number_of unassigned_pair) z)
-    ∷ test value_range (is_bad (number_of value_range) z)
-    ∷ test hlt_misplaced (misplaced_hlt z last)
+    test UnassignedPair (is_bad (number_of UnassignedPair) z)
+    ∷ test ValueRange (is_bad (number_of ValueRange) z)
+    ∷ test HltMisplaced (misplaced_hlt z last)
     ∷ []
 
 pub data Opener : Type 0 where
@@ -93,7 +95,7 @@ misplaced End o = not (last_def o.openers)
 misplaced (Cal k) o = not (o.closed k)
 -- 'HLT with HED or DEF open'
 misplaced Hlt o = any o.openers
-misplaced (Bad n) o = false
+misplaced (Bad r) o = false
 
 abbrev pub hed_of_zero : Kind → Bool
 hed_of_zero Event = false
@@ -103,10 +105,10 @@ hed_of_zero (Def k) = false
 hed_of_zero End = false
 hed_of_zero (Cal k) = false
 hed_of_zero Hlt = false
-hed_of_zero (Bad n) = false
+hed_of_zero (Bad r) = false
 
 abbrev pub nesting_tests : Kind → Nesting → List Test
-nesting_tests z o = test structure (misplaced z o) ∷ test hed_zero (hed_of_zero z) ∷ []
+nesting_tests z o = test Structure (misplaced z o) ∷ test HedZero (hed_of_zero z) ∷ []
 
 abbrev pub rest : List Opener → List Opener
 rest [] = []
@@ -120,7 +122,7 @@ openers_after (Def k) os = by_def k ∷ os
 openers_after End os = rest os
 openers_after (Cal k) os = os
 openers_after Hlt os = os
-openers_after (Bad n) os = os
+openers_after (Bad r) os = os
 
 abbrev pub closed_by : List Opener → (ℕ → Bool) → ℕ → Bool
 closed_by [] closed = closed
@@ -135,7 +137,7 @@ closed_after (Def k) os closed = closed
 closed_after End os closed = closed_by os closed
 closed_after (Cal k) os closed = closed
 closed_after Hlt os closed = closed
-closed_after (Bad n) os closed = closed
+closed_after (Bad r) os closed = closed
 
 abbrev pub nesting_after : Kind → Nesting → Nesting
 nesting_after z o = record { openers = openers_after z o.openers; closed = closed_after z o.openers o.closed }

@@ -5,77 +5,65 @@ ghost use Rattle.std.specs.Prelude.{◌≡◌, ◌≤◌, length};
 ghost use Rattle.bodies.specs.Voice.{pairs};
 ghost use Rattle.structure.specs.Findings.{pairs_finding, structure_finding};
 
-use nesting::{Open, Step};
-use refusals::Verdict;
+use nesting::Open;
+use refusals::Reason;
 
 mod nesting;
 mod single;
 
-// What tests made pair by pair find: none has applied, or the first that did, by its number and its pair's
-// number.
-#[derive(Clone, Copy)]
-pub enum Finding {
-    Clear,
-    At(u32, usize),
+// What tests made pair by pair find: the first that applies, by its reason and its pair's number.
+#[derive(Clone, Copy, Debug, PartialEq, Eq)]
+pub struct Finding {
+    pub reason: Reason,
+    pub pair: usize,
 }
 
 // internal: 27 to 29, pair by pair.
-pub fn pairs_finding(voice: &[u8]) -> Finding
+pub fn pairs_finding(voice: &[u8]) -> Result<(), Finding>
     requires { length voice.now ≤ 65536 }
     ensures { result ≡ pairs_finding (pairs voice.now) }
 {
     let n = voice.len() / 2;
-    let mut i = 0;
-    while i < n {
-        if i + 1 < n {
+    for i in 0..n {
+        let last = i + 1 == n;
+        if !last {
             if bodies::plain_at(voice, i) {
-                i += 1;
                 continue;
             }
         }
         let kind = bodies::kind_at(voice, i);
-        match single::test_pair(kind, i + 1 == n) {
-            Verdict::Failed(number) => return Finding::At(number, i),
-            Verdict::Passed => {
-                i += 1;
-            }
+        if let Err(reason) = single::test_pair(kind, last) {
+            return Err(Finding { reason, pair: i });
         }
     }
-    Finding::Clear
+    Ok(())
 }
 
 // internal: 30 and 31, pair by pair.
-pub fn structure_finding(voice: &[u8]) -> Finding
+pub fn structure_finding(voice: &[u8]) -> Result<(), Finding>
     requires { length voice.now ≤ 65536 }
     ensures { result ≡ structure_finding (pairs voice.now) }
 {
     let n = voice.len() / 2;
-    let mut closed = [0u8; 24];
+    let mut closed = [false; 24];
     let mut o = Open {
         inside: 0,
         outside: 0,
-        phrase: nesting::NONE,
+        phrase: None,
     };
-    let mut i = 0;
-    while i < n {
+    for i in 0..n {
         if bodies::plain_at(voice, i) {
-            i += 1;
-        } else {
-            let kind = bodies::kind_at(voice, i);
-            let known = closed[nesting::number_of(kind)] == 1;
-            match nesting::pass(kind, o, known) {
-                Step::Off(number) => return Finding::At(number, i),
-                Step::On(p) => {
-                    o = p;
-                    i += 1;
-                }
-                Step::Closes(p, k) => {
-                    closed[k] = 1;
-                    o = p;
-                    i += 1;
-                }
+            continue;
+        }
+        let kind = bodies::kind_at(voice, i);
+        let known = closed[nesting::number_of(kind)];
+        match nesting::pass(kind, o, known) {
+            Err(reason) => return Err(Finding { reason, pair: i }),
+            Ok(step) => {
+                o = step.after;
+                nesting::close(&mut closed, step.closes);
             }
         }
     }
-    Finding::Clear
+    Ok(())
 }

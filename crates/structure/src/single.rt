@@ -1,27 +1,27 @@
 // 27 to 29 at one pair.
 ghost use Rattle.std.specs.Prelude.{◌≡◌, [], ◌∷◌};
-ghost use Rattle.refusals.specs.Numbers.{hlt_misplaced};
+ghost use Rattle.refusals.specs.declared.Reason.TheVariants.{HltMisplaced};
 ghost use Rattle.refusals.specs.Tests.{test, first_of};
 ghost use Rattle.kind.specs.Kinds.{Numbered};
 ghost use Rattle.structure.specs.Tests.{pair_tests};
 
 use kind::Kind;
-use refusals::Verdict;
+use refusals::Reason;
 
 // A pair that is no HLT may not be the last.
-fn unless_last(last: bool) -> Verdict
-    ensures { result ≡ first_of (test hlt_misplaced last ∷ []) }
+fn unless_last(last: bool) -> Result<(), Reason>
+    ensures { result ≡ first_of (test HltMisplaced last ∷ []) }
 {
     if last {
-        Verdict::Failed(refusals::HLT_MISPLACED)
+        Err(Reason::HltMisplaced)
     } else {
-        Verdict::Passed
+        Ok(())
     }
 }
 
 // internal: the first of 27 to 29 that applies to a pair, which is the voice's last or not. Callers see that
-// a refused pair's number is 27 or 28.
-pub fn test_pair(kind: Kind, last: bool) -> Verdict
+// a refused pair's reason is 27 or 28.
+pub fn test_pair(kind: Kind, last: bool) -> Result<(), Reason>
     requires { Numbered kind }
     ensures { result ≡ first_of (pair_tests kind last) }
 {
@@ -33,6 +33,6 @@ pub fn test_pair(kind: Kind, last: bool) -> Verdict
         Kind::End => unless_last(last),
         Kind::Cal(_) => unless_last(last),
         Kind::Hlt => unless_last(!last),
-        Kind::Bad(number) => Verdict::Failed(number),
+        Kind::Bad(reason) => Err(reason),
     }
 }

@@ -6,7 +6,6 @@ use std::io;
 
 mod pairs;
 mod rsid;
-mod show;
 mod songs;
 
 fn main(rt: HostRuntime) -> io::Result<()> {

@@ -4,11 +4,12 @@
 // without the stop, which comes where counts are joined and where a body ends.
 #![tactic(auto)]
 
-ghost use Rattle.std.specs.Prelude.{◌≡◌, ◌<◌, ◌≤◌, max};
+ghost use Rattle.std.specs.Prelude.{◌≡◌, ◌<◌, ◌≤◌};
 ghost use Rattle.tally.specs.Sums.{cap, join, no_counts, more, passes, standing, again};
 ghost use Rattle.tally.specs.Small.{Small, Running, packed_counts, unpacked_counts};
 
-// The events and pairs walked of a body, and its depth.
+// The events and pairs walked of a body, and its depth. With no invariant: docs/CONTRACTS.md names the calls
+// below, which may ask no more of their callers than `Running` and `Small`.
 #[derive(Clone, Copy)]
 pub struct Counts {
     pub events: u32,
@@ -30,13 +31,7 @@ pub fn nothing() -> Counts
 fn capped(x: u32) -> u32
     ensures { result ≡ cap x }
 {
-    if x < 1048577 { x } else { 1048577 }
-}
-
-fn greater(a: u32, b: u32) -> u32
-    ensures { result ≡ max a b }
-{
-    if a < b { b } else { a }
+    x.min(1048577)
 }
 
 // Counts with more after them. No sum of callers is too large for its number.
@@ -47,7 +42,7 @@ fn with(a: Counts, b: Counts) -> Counts
     Counts {
         events: capped(a.events + b.events),
         walked: capped(a.walked + b.walked),
-        depth: greater(a.depth, b.depth),
+        depth: a.depth.max(b.depth),
     }
 }
 
@@ -68,12 +63,7 @@ pub fn settled(a: Counts) -> Counts
     requires { Running a }
     ensures { result ≡ join a no_counts }
 {
-    let rest = Counts {
-        events: 0,
-        walked: 0,
-        depth: 0,
-    };
-    with(a, rest)
+    with(a, nothing())
 }
 
 // internal: HED n, its body and its TAL: 1 + n × (body + 1).
@@ -122,7 +112,8 @@ pub fn with_call(a: Counts, b: Counts) -> Counts
     )
 }
 
-// internal: counts in one number, for a phrase's cell.
+// internal: counts in one number, for a phrase's cell. They stay so: docs/CONTRACTS.md names this call and
+// the next, docs/DECISIONS.md the law `unpacked_packed` of them.
 pub fn packed_counts(a: Counts) -> u64
     requires { Small a }
     ensures { result ≡ packed_counts a }

@@ -3,23 +3,23 @@
 -- under-sized    a body by the values before the body that comes before it
 -- product        multiples of a value fit their number
 -- many           and so do n passes
--- fixed-some, open_some, later-some   where a body sets a value
 -- passes-some    a pass, and n - 1 passes by what it leaves
 use Prim.Native.Nat.{ℕ, zero, suc, ◌-◌, ◌*◌, ◌<◌, ◌≤◌}
-use mathlib.Core.Path.{◌≡◌, refl}
-use native.Mathlib.Nat.{mul-le-mul, not-suc-le-zero, le_of_suc-le-suc}
+use mathlib.Core.Path.{◌≡◌}
+use native.Mathlib.Nat.{mul-le-mul, not-suc-le-zero}
 use native.Mathlib.Omega.{arith}
+use Rattle.std.specs.Prelude.{Some, None}
 use Rattle.timemap.specs.declared.TimeMap.{TimeMap}
-use Rattle.timemap.specs.Maps.{Left, fixed_part, open_part, later, under, plus, passes}
+use Rattle.timemap.specs.Maps.{Left, fixed_part, open_part, under, plus, passes}
 use Rattle.timemap.specs.Small.{Low, Sized, Small}
 
 pub fixed-bound : (l : Left) (n : ℕ) → Low l → n ≤ 1073741824 → fixed_part l n ≤ 274877906944
-fixed-bound zero n low h = omega arith
-fixed-bound (suc v) n low h = let e : n * v ≤ 1073741824 * 256 = mul-le-mul h (le_of_suc-le-suc low) in omega arith
+fixed-bound None n low h = omega arith
+fixed-bound (Some v) n low h = let e : n * v ≤ 1073741824 * 256 = mul-le-mul h low in omega arith
 
 open_bound : (l : Left) (n : ℕ) → open_part l n ≤ n
-open_bound zero n = omega arith
-open_bound (suc v) n = omega arith
+open_bound None n = omega arith
+open_bound (Some v) n = omega arith
 
 pub under-sized : (a b : TimeMap) → Small a → Small b → Sized 2199023255552 (under a b)
 under-sized a b s t =
@@ -49,15 +49,3 @@ pub passes-some : (n : ℕ) (b : TimeMap) → 0 < n → plus b (n - 1) (under b 
 unfolding passes
 passes-some zero b h = absurd (not-suc-le-zero h)
 passes-some (suc n) b h = let e : suc n - 1 ≡ n = omega arith in rw e
-
-pub fixed-some : (l n : ℕ) → (l ≡ 0 → ⊥) → n * (l - 1) ≡ fixed_part l n
-fixed-some zero n h = absurd (h refl)
-fixed-some (suc v) n h = let e : suc v - 1 ≡ v = omega arith in rw e
-
-pub open_some : (l n : ℕ) → (l ≡ 0 → ⊥) → 0 ≡ open_part l n
-open_some zero n h = absurd (h refl)
-open_some (suc v) n h = refl
-
-pub later-some : (l m : ℕ) → (m ≡ 0 → ⊥) → m ≡ later l m
-later-some l zero h = absurd (h refl)
-later-some l (suc v) h = refl

@@ -6,7 +6,8 @@
 -- within-small                 at most 1,048,576 events leave a map small
 use Prim.Native.Nat.{ℕ, zero, suc, ◌+◌, ◌*◌, ◌≤◌}
 use mathlib.Core.Path.{sym, subst}
-use native.Mathlib.Nat.{suc-mul, le_refl, le_of_suc-le-suc, mul-le-mul}
+use Rattle.std.specs.Prelude.{Some, None}
+use native.Mathlib.Nat.{suc-mul, le_refl, mul-le-mul}
 use native.Mathlib.Omega.{arith}
 use Rattle.timemap.specs.declared.TimeMap.{TimeMap}
 use Rattle.timemap.specs.Maps.{Left, still, fixed_part, open_part, later, joined, passes}
@@ -20,16 +21,16 @@ pub record Within (events : ℕ) (a : TimeMap) : Type 0 where
   pub utv : Low a.utv
 
 pub within-still : Within 0 still
-within-still = record { peak = omega arith; tempo = omega arith; utl = omega arith; utv = omega arith }
+within-still = record { peak = omega arith; tempo = tt; utl = tt; utv = tt }
 
 -- multiples that a value is set for are no more than at 256
 part-bound : (l : Left) (n : ℕ) → Low l → fixed_part l n + 256 * open_part l n ≤ 256 * n
-part-bound zero n low = omega arith
-part-bound (suc v) n low = let e : n * v ≤ n * 256 = mul-le-mul (le_refl n) (le_of_suc-le-suc low) in omega arith
+part-bound None n low = omega arith
+part-bound (Some v) n low = let e : n * v ≤ n * 256 = mul-le-mul (le_refl n) low in omega arith
 
 low-later : (l m : Left) → Low l → Low m → Low (later l m)
-low-later l zero p q = p
-low-later l (suc v) p q = q
+low-later l None p q = p
+low-later l (Some v) p q = q
 
 pub within-joined : (w x : ℕ) (a b : TimeMap) → Within w a → Within x b → Within (w + x) (joined a b)
 unfolding joined

@@ -7,7 +7,7 @@
 -- fixed_none, open_none        no multiples come to nothing
 -- still-joined, joined-still   nothing before or after a body changes nothing
 -- passes-more           one pass more is a pass, and the others after it
-use Rattle.std.specs.Prelude.{ℕ, zero, suc, ◌+◌, ◌*◌, ◌≡◌, refl}
+use Rattle.std.specs.Prelude.{ℕ, zero, suc, ◌+◌, ◌*◌, ◌≡◌, refl, Some, None}
 use Rattle.std.proofs.Common.{sym, ap, arith, suc-mul, zero-mul, add-mul}
 use Rattle.clock.specs.declared.Values.{Values}
 use Rattle.timemap.specs.declared.TimeMap.{TimeMap}
@@ -22,8 +22,8 @@ same_map a b f t l v ts ls vs =
 
 -- one value: n multiples after a body that has m of them
 value-length : (l : Left) (m n x : ℕ) → fixed_part l n + (m + 1 * open_part l n) * x ≡ m * x + n * left l x
-value-length zero m n x = let e : m + 1 * n ≡ m + n = omega arith in rw e (omega (arith, add-mul m n x))
-value-length (suc v) m n x = let e : m + 1 * 0 ≡ m = omega arith in rw e (omega arith)
+value-length None m n x = let e : m + 1 * n ≡ m + n = omega arith in rw e (omega (arith, add-mul m n x))
+value-length (Some v) m n x = let e : m + 1 * 0 ≡ m = omega arith in rw e (omega arith)
 
 -- Two bodies last what the first lasts, and what the second lasts by the values that the first leaves.
 pub joined_length : (a b : TimeMap) (q : Values) → length_by (joined a b) q ≡ length_by a q + length_by b (values_by a q)
@@ -37,12 +37,12 @@ joined_length a b q =
     )
 
 left-later : (l m : Left) (x : ℕ) → left (later l m) x ≡ left m (left l x)
-left-later l zero x = refl
-left-later l (suc v) x = refl
+left-later l None x = refl
+left-later l (Some v) x = refl
 
 left-again : (l : Left) (x : ℕ) → left l (left l x) ≡ left l x
-left-again zero x = refl
-left-again (suc v) x = refl
+left-again None x = refl
+left-again (Some v) x = refl
 
 -- A second pass leaves the values that the first leaves: every pass from the second on starts with the same.
 pub same_start : (b : TimeMap) (q : Values) → values_by b (values_by b q) ≡ values_by b q
@@ -65,18 +65,18 @@ joined-values a b q = λ i. record {
 -- one value of three bodies
 fixed_assoc : (l m : Left) (b c : ℕ)
     → fixed_part l b + fixed_part (later l m) c ≡ fixed_part m c + fixed_part l (b + 1 * open_part m c)
-fixed_assoc zero zero b c = refl
-fixed_assoc (suc v) zero b c = let e : b + 1 * c ≡ b + c = omega arith in rw e (omega (arith, add-mul b c v))
-fixed_assoc l (suc w) b c = let e : b + 1 * 0 ≡ b = omega arith in rw e (omega arith)
+fixed_assoc None None b c = refl
+fixed_assoc (Some v) None b c = let e : b + 1 * c ≡ b + c = omega arith in rw e (omega (arith, add-mul b c v))
+fixed_assoc l (Some w) b c = let e : b + 1 * 0 ≡ b = omega arith in rw e (omega arith)
 
 open_assoc : (l m : Left) (b c : ℕ) → open_part l b + open_part (later l m) c ≡ open_part l (b + 1 * open_part m c)
-open_assoc zero zero b c = omega arith
-open_assoc (suc v) zero b c = refl
-open_assoc l (suc w) b c = let e : b + 1 * 0 ≡ b = omega arith in rw e (omega arith)
+open_assoc None None b c = omega arith
+open_assoc (Some v) None b c = refl
+open_assoc l (Some w) b c = let e : b + 1 * 0 ≡ b = omega arith in rw e (omega arith)
 
 later_assoc : (l m r : Left) → later (later l m) r ≡ later l (later m r)
-later_assoc l m zero = refl
-later_assoc l m (suc v) = refl
+later_assoc l m None = refl
+later_assoc l m (Some v) = refl
 
 -- Of three bodies, either two neighbours may be joined first.
 pub joined_assoc : (a b c : TimeMap) → joined (joined a b) c ≡ joined a (joined b c)
@@ -96,9 +96,9 @@ joined_assoc a b c =
     (later_assoc a.utl b.utl c.utl)
     (later_assoc a.utv b.utv c.utv)
 
-later_first : (l : Left) → later zero l ≡ l
-later_first zero = refl
-later_first (suc v) = refl
+later_first : (l : Left) → later None l ≡ l
+later_first None = refl
+later_first (Some v) = refl
 
 -- A body after nothing is the body.
 pub still-joined : (b : TimeMap) → joined still b ≡ b
@@ -109,13 +109,13 @@ still-joined b =
 
 -- No multiples come to nothing.
 pub fixed_none : (l : Left) → fixed_part l 0 ≡ 0
-fixed_none zero = refl
-fixed_none (suc v) = zero-mul v
+fixed_none None = refl
+fixed_none (Some v) = zero-mul v
 
 -- None of them go by a value.
 pub open_none : (l : Left) → open_part l 0 ≡ 0
-open_none zero = refl
-open_none (suc v) = refl
+open_none None = refl
+open_none (Some v) = refl
 
 -- Nothing after a body is the body.
 pub joined-still : (a : TimeMap) → joined a still ≡ a
@@ -126,16 +126,16 @@ joined-still a =
 
 -- one value of a body that comes again
 fixed-again : (l : Left) (n t : ℕ) → fixed_part l (t + n * open_part l t) ≡ fixed_part l t
-fixed-again zero n t = refl
-fixed-again (suc v) n t = let e : t + n * 0 ≡ t = omega arith in rw e
+fixed-again None n t = refl
+fixed-again (Some v) n t = let e : t + n * 0 ≡ t = omega arith in rw e
 
 open_again : (l : Left) (n t : ℕ) → open_part l (t + n * open_part l t) ≡ suc n * open_part l t
-open_again zero n t = omega (arith, suc-mul n t)
-open_again (suc v) n t = omega arith
+open_again None n t = omega (arith, suc-mul n t)
+open_again (Some v) n t = omega arith
 
 later-again : (l : Left) → later l l ≡ l
-later-again zero = refl
-later-again (suc v) = refl
+later-again None = refl
+later-again (Some v) = refl
 
 -- One pass more is a pass, and the other passes after it.
 pub passes-more : (n : ℕ) (b : TimeMap) → passes (suc n) b ≡ joined b (passes n b)

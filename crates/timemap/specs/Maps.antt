@@ -1,7 +1,7 @@
 -- Document 02 (iii): 'a body's length is a fixed number plus fixed multiples of those it starts with' (the
 -- tempo, UTL and UTV). The maps of pairs are in crates/pairmap/specs. Laws.antt shows what a map made of maps
 -- says.
--- Left, as_it_was, set_to  where a body leaves a value, as one number: 0 as it was, v + 1 set to v
+-- Left, as_it_was, set_to  where a body leaves a value: as it was, or set to one
 -- left                  the value after it, by the value before it
 -- length_by, values_by    how long a body lasts and which values it leaves, by the values before it
 -- still                 of nothing
@@ -13,22 +13,23 @@
 -- joined                two bodies, one after the other
 -- passes                n passes over a body: 'every pass from the second on starts with the same tempo and
 --                       utility values'
-use Rattle.std.specs.Prelude.{ℕ, zero, suc, ◌+◌, ◌*◌}
+use Rattle.std.specs.Prelude.{ℕ, zero, suc, ◌+◌, ◌*◌, Option, Some, None}
+use Rattle.std.specs.Option.{option_or}
 use Rattle.clock.specs.declared.Values.{Values}
 use Rattle.timemap.specs.declared.TimeMap.{TimeMap}
 
 abbrev pub Left : Type 0
-Left = ℕ
+Left = Option ℕ
 
 abbrev pub as_it_was : Left
-as_it_was = 0
+as_it_was = None
 
 abbrev pub set_to : ℕ → Left
-set_to v = suc v
+set_to v = Some v
 
 abbrev pub left : Left → ℕ → ℕ
-left zero x = x
-left (suc v) x = v
+left None x = x
+left (Some v) x = v
 
 unfoldable pub length_by : TimeMap → Values → ℕ
 length_by a q = a.fixed + a.tempos * q.tempo + a.utls * q.utl + a.utvs * q.utv
@@ -40,16 +41,15 @@ abbrev pub still : TimeMap
 still = record { fixed = 0; tempos = 0; utls = 0; utvs = 0; tempo = as_it_was; utl = as_it_was; utv = as_it_was }
 
 abbrev pub fixed_part : Left → ℕ → ℕ
-fixed_part zero n = 0
-fixed_part (suc v) n = n * v
+fixed_part None n = 0
+fixed_part (Some v) n = n * v
 
-abbrev pub open_part : Left → ℕ → ℕ
-open_part zero n = n
-open_part (suc v) n = 0
+abbrev pub open_part : {A : Type 0} → Option A → ℕ → ℕ
+open_part None n = n
+open_part (Some v) n = 0
 
 abbrev pub later : Left → Left → Left
-later l zero = l
-later l (suc v) = suc v
+later l m = option_or m l
 
 abbrev pub under : TimeMap → TimeMap → TimeMap
 under a b =

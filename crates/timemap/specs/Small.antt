@@ -2,12 +2,13 @@
 -- Low     a value left as it was, or at one that a pair can set: at most 256
 -- Sized   fixed 384ths up to a bound, and at most 2^30 multiples of each value
 -- Small   so with at most 2^40 fixed 384ths, and each value left Low
-use Rattle.std.specs.Prelude.{ℕ, ◌≤◌}
+use Rattle.std.specs.Prelude.{ℕ, ◌≤◌, Some, None}
 use Rattle.timemap.specs.declared.TimeMap.{TimeMap}
 use Rattle.timemap.specs.Maps.{Left}
 
 abbrev pub Low : Left → Type 0
-Low l = l ≤ 257
+Low None = Unit
+Low (Some v) = v ≤ 256
 
 pub record Sized (bound : ℕ) (a : TimeMap) : Type 0 where
   pub fixed : a.fixed ≤ bound

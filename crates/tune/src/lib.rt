@@ -1,6 +1,5 @@
 // A PSID or RSID file as one thing: the lent file with where its title, author, released text and payload lie
-// in it. The struct holds a reference, so the functions over it are few and thin: each takes it apart and
-// leaves the work to `fields::span_part`.
+// in it. Its methods are thin: each leaves the work to `fields::span_part`.
 // `shown` has plain parameters: whoever calls it meets no such struct.
 #![tactic(auto)]
 
@@ -31,56 +30,58 @@ pub struct Tune<'a> {
     pub payload: Span,
 }
 
-// The tune of a file and its accepted header.
-pub fn of<'a>(file: &'a [u8], h: Header) -> Tune<'a>
-    ensures { result ≡ tune_of file.entry h }
-{
-    Tune {
-        file,
-        title: h.title,
-        author: h.author,
-        released: h.released,
-        payload: h.payload,
+impl<'a> Tune<'a> {
+    // The tune of a file and its accepted header.
+    pub fn of(file: &'a [u8], h: Header) -> Tune<'a>
+        ensures { result ≡ tune_of file.entry h }
+    {
+        Tune {
+            file,
+            title: h.title,
+            author: h.author,
+            released: h.released,
+            payload: h.payload,
+        }
     }
-}
 
-// The title, a part of the lent file.
-pub fn title<'a>(t: Tune<'a>) -> &'a [u8]
-    ensures { result.now ≡ part_of t.entry.file.now t.entry.title }
-{
-    fields::span_part(t.file, t.title)
-}
+    // The title, a part of the lent file.
+    pub fn title(self) -> &'a [u8]
+        ensures { result.now ≡ part_of self.entry.file.now self.entry.title }
+    {
+        fields::span_part(self.file, self.title)
+    }
 
-// The author's name, a part of the lent file.
-pub fn author<'a>(t: Tune<'a>) -> &'a [u8]
-    ensures { result.now ≡ part_of t.entry.file.now t.entry.author }
-{
-    fields::span_part(t.file, t.author)
-}
+    // The author's name, a part of the lent file.
+    pub fn author(self) -> &'a [u8]
+        ensures { result.now ≡ part_of self.entry.file.now self.entry.author }
+    {
+        fields::span_part(self.file, self.author)
+    }
 
-// The released text, a part of the lent file.
-pub fn released<'a>(t: Tune<'a>) -> &'a [u8]
-    ensures { result.now ≡ part_of t.entry.file.now t.entry.released }
-{
-    fields::span_part(t.file, t.released)
-}
+    // The released text, a part of the lent file.
+    pub fn released(self) -> &'a [u8]
+        ensures { result.now ≡ part_of self.entry.file.now self.entry.released }
+    {
+        fields::span_part(self.file, self.released)
+    }
 
-// The payload, a part of the lent file; without the two address bytes, where the data begin with them.
-pub fn payload<'a>(t: Tune<'a>) -> &'a [u8]
-    ensures { result.now ≡ part_of t.entry.file.now t.entry.payload }
-{
-    fields::span_part(t.file, t.payload)
+    // The payload, a part of the lent file; without the two address bytes, where the data begin with them.
+    pub fn payload(self) -> &'a [u8]
+        ensures { result.now ≡ part_of self.entry.file.now self.entry.payload }
+    {
+        fields::span_part(self.file, self.payload)
+    }
 }
 
 // A part by its name, of a file and its accepted header.
 pub fn shown(file: &[u8], h: Header, piece: Piece) -> &[u8]
     ensures { result.now ≡ part_of file.now (span_of h piece) }
 {
-    let t = of(file, h);
+    let tune = Tune::of(file, h);
     match piece {
-        Piece::Title => title(t),
-        Piece::Author => author(t),
-        Piece::Released => released(t),
-        Piece::Payload => payload(t),
+        Piece::Title => tune.title(),
+        Piece::Author => tune.author(),
+        Piece::Released => tune.released(),
+        Piece::Payload => tune.payload(),
     }
 }

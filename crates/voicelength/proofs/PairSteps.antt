@@ -1,13 +1,14 @@
 -- A voice read pair by pair: what is known at the next pair, by what this one is.
--- next, top               what is open after this pair; the body around the innermost
+-- next                    what is open after this pair
 -- read-event, read-call   an event, a CAL
 -- called-small            the map of a phrase that is called is small
 -- Opening, read-hed, read-def   a HED, a DEF: the body around waits
 -- AtTal, read-tal         a TAL: passes of the body that it closes
 -- AtEnd, read-end         an END: the phrase is kept
-use Prim.Native.Nat.{ℕ, ◌+◌, ◌-◌, ◌<◌, ◌≤◌}
+use Prim.Native.Nat.{ℕ, ◌+◌, ◌<◌, ◌≤◌}
 use mathlib.Core.Path.{◌≡◌, refl, sym, ap, ◌∙◌, subst}
-use mathlib.Core.List.{List, [], ◌∷◌}
+use mathlib.Core.List.{List, [], ◌∷◌, ◌++◌}
+use Rattle.std.specs.Prelude.{Some}
 use native.Mathlib.Omega.{arith}
 use lib.ListN.{length, get_or, set}
 use Rattle.timemap.specs.declared.TimeMap.{TimeMap}
@@ -21,6 +22,8 @@ use Rattle.bodies.specs.Bodies.{Closer, by_tal, by_end, Body, done, event, repea
 use Rattle.bodies.specs.Playing.{of_voice}
 use Rattle.bodies.specs.Order.{Shut}
 use Rattle.bodies.specs.Places.{open_at}
+use Rattle.moves.specs.Moves.{top, below}
+use Rattle.walk.proofs.Contexts.{topped}
 use Rattle.walk.proofs.Closing.{differ}
 use Rattle.voicelength.specs.declared.reading.Open.{Open}
 use Rattle.voicelength.proofs.Weighing.{Weighed, none, one, after, repeated, standing, called}
@@ -30,17 +33,17 @@ use Rattle.voicelength.proofs.Frames.{Opened, hed, def, closed, learned, whole, 
 use Rattle.voicelength.proofs.Frames.{whole-call, whole-hed, whole-def, whole_close, heds, Ok, EachOk}
 use Rattle.voicelength.proofs.Chains.{closer_of, only-heds, Chain, chain_fit, chain-event, chain-call}
 use Rattle.voicelength.proofs.Chains.{chain-hed, chain-def, no-def}
-use Rattle.voicelength.proofs.Progress.{open_of, no_open, Kept, kept_push, kept_pop, Known, known-learn}
+use Rattle.voicelength.proofs.Progress.{open_of, opens_of, Kept, kept-length, kept_push, Known, known-learn}
 use Rattle.voicelength.proofs.Progress.{Reading, left, few-pairs, few-heds, whole_as}
 
-module _ {bs : List ℕ} {around : List Open} {phrases : List TimeMap} {depth : ℕ} {now : TimeMap} {at : ℕ}
-    (r : Reading bs around phrases depth now at) where
+module _ {bs : List ℕ} {around : List Open} {phrases : List TimeMap} {now : TimeMap} {at : ℕ}
+    (r : Reading bs around phrases now at) where
   abbrev pub next : List Body
   next = open_at (pairs bs) (at + 1)
 
   -- a pair after which the innermost body goes on
   goes : (x : Weighed) → Good x → whole (after r.here x) r.frames r.table next ≡ of_voice weighing (pairs bs)
-      → Chain r.frames next → Reading bs around phrases depth (joined now x.map) (at + 1)
+      → Chain r.frames next → Reading bs around phrases (joined now x.map) (at + 1)
   unfolding after
   goes x g w c =
       record {
@@ -58,13 +61,13 @@ module _ {bs : List ℕ} {around : List Open} {phrases : List TimeMap} {depth : 
       }
 
   pub read-event : (e : bodies.Event) → Good (one e.meaning) → left r ≡ event e (inner next) ∷ outer next
-      → Reading bs around phrases depth (joined now (single e.meaning)) (at + 1)
+      → Reading bs around phrases (joined now (single e.meaning)) (at + 1)
   read-event e g q =
       goes (one e.meaning) g (sym (whole-event r.here r.frames r.table next e) ∙ whole_as r r.frames _ refl q)
       (chain-event r.frames next e (subst (Chain r.frames) q r.chain))
 
   pub read-call : (k : ℕ) → left r ≡ call k (inner next) ∷ outer next
-      → Reading bs around phrases depth (joined now (get_or phrases k still)) (at + 1)
+      → Reading bs around phrases (joined now (get_or phrases k still)) (at + 1)
   read-call k q =
       rw (r.known.knows k)
       (goes (called (r.table k)) (good-called (r.table k) (r.known.good k))
@@ -79,10 +82,10 @@ module _ {bs : List ℕ} {around : List Open} {phrases : List TimeMap} {depth : 
       rw (r.known.knows k) (within-small (r.table k).pairs (r.table k).map (omega (arith, few, more)) (r.known.good k))
 
   -- a body opened: the one around it waits
-  opens : (f : Opened) → Ok f → length r.frames ≤ 16 → length (f ∷ r.frames) ≤ heds (f ∷ r.frames) + 1
+  opens : (f : Opened) → Ok f → length (f ∷ r.frames) ≤ heds (f ∷ r.frames) + 1
       → whole none (f ∷ r.frames) r.table next ≡ of_voice weighing (pairs bs) → Chain (f ∷ r.frames) next
-      → Reading bs (set around depth (open_of f)) phrases (depth + 1) still (at + 1)
-  opens f ok low short w c =
+      → Reading bs (around ++ open_of f ∷ []) phrases still (at + 1)
+  opens f ok short w c =
       record {
         here = none;
         frames = f ∷ r.frames;
@@ -91,7 +94,7 @@ module _ {bs : List ℕ} {around : List Open} {phrases : List TimeMap} {depth : 
         whole_is = w;
         chain = c;
         good = within-still;
-        kept = kept_push around r.frames depth f ok low short r.kept;
+        kept = kept_push around r.frames f ok short r.kept;
         known = r.known;
         readable = r.readable;
         bytes = r.bytes;
@@ -99,15 +102,14 @@ module _ {bs : List ℕ} {around : List Open} {phrases : List TimeMap} {depth : 
 
   abbrev pub Opening : ℕ → Type 0
   Opening n =
-      (depth < 17) × Reading bs (set around depth (record { before = now; number = n })) phrases (depth + 1) still (at + 1)
+      (length around < 17) × Reading bs (around ++ record { before = now; number = n } ∷ []) phrases still (at + 1)
 
   waits : (n : ℕ) → length r.frames ≤ 16
-      → Reading bs (set around depth (record { before = r.here.map; number = n })) phrases (depth + 1) still (at + 1)
+      → Reading bs (around ++ record { before = r.here.map; number = n } ∷ []) phrases still (at + 1)
       → Opening n
   waits n low x = (
-    omega (arith, r.kept.deep),
-    subst (λ (m : TimeMap). Reading bs (set around depth (record { before = m; number = n })) phrases (depth + 1) still
-        (at + 1)) r.is x,
+    omega (arith, kept-length around r.frames r.kept),
+    subst (λ (m : TimeMap). Reading bs (around ++ record { before = m; number = n } ∷ []) phrases still (at + 1)) r.is x,
   )
 
   pub read-hed : (n : ℕ) → 0 < n → n < 256
@@ -117,7 +119,7 @@ module _ {bs : List ℕ} {around : List Open} {phrases : List TimeMap} {depth : 
       let w = sym (whole-hed r.here r.frames r.table next n) ∙ whole_as r r.frames _ refl q in
       let low : length r.frames ≤ 16 = omega (arith, few-heds r none (f ∷ r.frames) r.table next w, r.kept.short) in
       waits n low
-      (opens f (some, few, r.good) low (omega (arith, r.kept.short)) w
+      (opens f (some, few, r.good) (omega (arith, r.kept.short)) w
       (chain-hed r.frames next n r.here (subst (Chain r.frames) q r.chain)))
 
   pub read-def : (k : ℕ) → k < 24 → left r ≡ phrase k (inner next) (inner (outer next)) ∷ outer (outer next) → Opening k
@@ -127,7 +129,7 @@ module _ {bs : List ℕ} {around : List Open} {phrases : List TimeMap} {depth : 
       let chain = subst (Chain r.frames) q r.chain in
       let same = only-heds r.frames (no-def r.frames next k chain) in
       let low : length r.frames ≤ 16 = omega (arith, few-heds r none (f ∷ r.frames) r.table next w, same) in
-      waits k low (opens f (few, r.good) low (omega (arith, same)) w (chain-def r.frames next k r.here chain))
+      waits k low (opens f (few, r.good) (omega (arith, same)) w (chain-def r.frames next k r.here chain))
 
   closed-whole : (f : Opened) (fs : List Opened) (c : Closer) → r.frames ≡ f ∷ fs → left r ≡ done c ∷ next
       → whole (closed f r.here) fs (learned f r.here r.table) next ≡ of_voice weighing (pairs bs)
@@ -148,7 +150,7 @@ module _ {bs : List ℕ} {around : List Open} {phrases : List TimeMap} {depth : 
   closes : (f : Opened) (fs : List Opened) (c : Closer) (phrases' : List TimeMap) (m : TimeMap)
       → r.frames ≡ f ∷ fs → left r ≡ done c ∷ next → Good (closed f r.here)
       → (closed f r.here).map ≡ m → length fs ≤ heds fs + 1 → Known phrases' (learned f r.here r.table)
-      → Reading bs around phrases' (depth - 1) m (at + 1)
+      → Reading bs (below around) phrases' m (at + 1)
   unfolding outer
   closes f fs c phrases' m e q g is short known =
       let chain : Chain (f ∷ fs) (done c ∷ next) = subst (λ (l : List Body). Chain (f ∷ fs) l) q
@@ -161,33 +163,26 @@ module _ {bs : List ℕ} {around : List Open} {phrases : List TimeMap} {depth : 
         whole_is = closed-whole f fs c e q;
         chain = chain.1;
         good = g;
-        kept = kept_pop around f fs depth short (subst (λ (gs : List Opened). Kept around gs depth) e r.kept);
+        kept =
+            let k : Kept around (f ∷ fs) = subst (λ (gs : List Opened). Kept around gs) e r.kept in
+            record { ok = k.ok.1; holds = (topped around (opens_of fs) (open_of f) k.holds).1; short = short };
         known = known;
         readable = r.readable;
         bytes = r.bytes;
       }
 
-  abbrev pub top : Open
-  top = get_or around (depth - 1) no_open
-
-  depth_low : depth ≤ 17
-  depth_low = omega (arith, few-heds r r.here r.frames r.table (left r) r.whole_is, r.kept.short, r.kept.deep)
-
   -- the code's list has the body around the one that is closed
-  top-is : (f : Opened) (fs : List Opened) → r.frames ≡ f ∷ fs → (0 < depth) × (top ≡ open_of f)
-  top-is f fs e =
-      let k : Kept around (f ∷ fs) depth = subst (λ (gs : List Opened). Kept around gs depth) e r.kept in
-      let at_top : depth - 1 ≡ length fs = omega (arith, k.deep) in
-      (omega (arith, k.deep), rw at_top k.holds.0)
+  top-is : (f : Opened) (fs : List Opened) → r.frames ≡ f ∷ fs → top around ≡ Some (open_of f)
+  top-is f fs e = (topped around (opens_of fs) (open_of f) (subst (λ (gs : List Opened). Kept around gs) e r.kept).holds).0
 
   pub record AtTal : Type 0 where
-    pub some : 0 < depth
-    pub low : depth ≤ 17
-    pub passes-some : 0 < top.number
-    pub passes-low : top.number < 256
-    pub before_small : Small top.before
-    pub passes-small : Small (passes top.number now)
-    pub goes_on : Reading bs around phrases (depth - 1) (joined top.before (passes top.number now)) (at + 1)
+    pub open_body : Open
+    pub is-top : top around ≡ Some open_body
+    pub passes-some : 0 < open_body.number
+    pub passes-low : open_body.number < 256
+    pub before_small : Small open_body.before
+    pub passes-small : Small (passes open_body.number now)
+    pub goes_on : Reading bs (below around) phrases (joined open_body.before (passes open_body.number now)) (at + 1)
 
   -- what closes the innermost body
   closer-is : (c : Closer) → left r ≡ done c ∷ next → closer_of r.frames ≡ c
@@ -202,29 +197,25 @@ module _ {bs : List ℕ} {around : List Open} {phrases : List TimeMap} {depth : 
       go [] e c = absurd (let z : ◌≡◌ {A = ℕ} 2 0 = differ c in omega arith)
       go (def k a ∷ fs) e c = absurd (let z : ◌≡◌ {A = ℕ} 1 0 = differ c in omega arith)
       go (hed n a ∷ fs) e c =
-          let t = top-is (hed n a) fs e in
-          let k : Kept around (hed n a ∷ fs) depth = subst (λ (gs : List Opened). Kept around gs depth) e r.kept in
+          let k : Kept around (hed n a ∷ fs) = subst (λ (gs : List Opened). Kept around gs) e r.kept in
           let ok = k.ok.0 in
           let g = good-repeated n r.here r.good in
-          let on = closes (hed n a) fs by_tal phrases (joined top.before (passes top.number now)) e q
-          (good-after a (repeated n r.here) ok.2 g)
-          (rw (t.1, r.is)) (omega (arith, k.short)) r.known in
           record {
-            some = t.0;
-            low = depth_low;
-            passes-some = rw t.1 ok.0;
-            passes-low = rw t.1 ok.1;
-            before_small = rw t.1 (closed-small (hed n a) fs by_tal e q a (omega arith) ok.2);
-            passes-small = rw (t.1, ← r.is) (closed-small (hed n a) fs by_tal e q (repeated n r.here) (omega arith) g);
-            goes_on = on;
+            open_body = open_of (hed n a);
+            is-top = top-is (hed n a) fs e;
+            passes-some = ok.0;
+            passes-low = ok.1;
+            before_small = closed-small (hed n a) fs by_tal e q a (omega arith) ok.2;
+            passes-small = rw (← r.is) (closed-small (hed n a) fs by_tal e q (repeated n r.here) (omega arith) g);
+            goes_on = closes (hed n a) fs by_tal phrases (joined a.map (passes n now)) e q (good-after a (repeated n r.here) ok.2 g) (rw r.is) (omega (arith, k.short)) r.known;
           }
 
   pub record AtEnd : Type 0 where
-    pub some : 0 < depth
-    pub low : depth ≤ 17
-    pub number-low : top.number < 24
-    pub before_small : Small top.before
-    pub goes_on : Reading bs around (set phrases top.number now) (depth - 1) (joined top.before now) (at + 1)
+    pub open_body : Open
+    pub is-top : top around ≡ Some open_body
+    pub number-low : open_body.number < 24
+    pub before_small : Small open_body.before
+    pub goes_on : Reading bs (below around) (set phrases open_body.number now) (joined open_body.before now) (at + 1)
 
   pub read-end : left r ≡ done by_end ∷ next → AtEnd
   unfolding after
@@ -234,18 +225,13 @@ module _ {bs : List ℕ} {around : List Open} {phrases : List TimeMap} {depth : 
       go [] e c = absurd (let z : ◌≡◌ {A = ℕ} 2 1 = differ c in omega arith)
       go (hed n a ∷ fs) e c = absurd (let z : ◌≡◌ {A = ℕ} 0 1 = differ c in omega arith)
       go (def j a ∷ fs) e c =
-          let t = top-is (def j a) fs e in
-          let k : Kept around (def j a ∷ fs) depth = subst (λ (gs : List Opened). Kept around gs depth) e r.kept in
+          let k : Kept around (def j a ∷ fs) = subst (λ (gs : List Opened). Kept around gs) e r.kept in
           let ok = k.ok.0 in
           let g = good-standing r.here r.good in
-          let on = closes (def j a) fs by_end (set phrases top.number now) (joined top.before now) e q
-          (good-after a (standing r.here) ok.1 g)
-          (rw (t.1, r.is)) (omega (arith, k.short))
-          (rw (t.1, ← r.is) (known-learn phrases r.table j r.here ok.0 r.good r.known)) in
           record {
-            some = t.0;
-            low = depth_low;
-            number-low = rw t.1 ok.0;
-            before_small = rw t.1 (closed-small (def j a) fs by_end e q a (omega arith) ok.1);
-            goes_on = on;
+            open_body = open_of (def j a);
+            is-top = top-is (def j a) fs e;
+            number-low = ok.0;
+            before_small = closed-small (def j a) fs by_end e q a (omega arith) ok.1;
+            goes_on = closes (def j a) fs by_end (set phrases j now) (joined a.map now) e q (good-after a (standing r.here) ok.1 g) (rw r.is) (omega (arith, k.short)) (rw (← r.is) (known-learn phrases r.table j r.here ok.0 r.good r.known));
           }

@@ -1,7 +1,7 @@
 -- A voice read pair by pair: at each pair what is made of the stored pairs so far, with what is still to
 -- come, is what is made of the voice.
--- open_of, no_open, Holds, holds_set   the code's list holds the bodies that are open
--- Kept, kept_push, kept_pop    so, with what is known of them; one body more, one body less
+-- open_of, opens_of            the code's list of the bodies that are open
+-- Kept, kept-length, kept_push   so, with what is known of them; as many; one body more
 -- Known, known-learn           the code's list of phrases holds what is made of them; one phrase more
 -- Reading                      all that is known at a pair
 -- reading-start, reading-end   before the first pair, and after the last
@@ -9,17 +9,16 @@
 -- few-pairs, few-heds          no body has more than 1,048,576 pairs, and at most 16 are open by a HED
 -- now_small                    so the map of the innermost body is small
 -- whole_as                     what is made of the voice, where what is open is known
-use Prim.Native.Nat.{ℕ, zero, suc, ◌+◌, ◌-◌, ◌/◌, ◌<◌, ◌≤◌}
+use Prim.Native.Nat.{ℕ, zero, suc, ◌+◌, ◌/◌, ◌<◌, ◌≤◌}
 use mathlib.Core.Path.{◌≡◌, refl, sym, ap, ◌∙◌, subst}
-use mathlib.Core.List.{List, [], ◌∷◌}
+use mathlib.Core.List.{List, [], ◌∷◌, ◌++◌}
 use native.Mathlib.Omega.{arith}
 use borrow.Author.Tests.{ltb-false}
 use lib.Dec.{eqb}
-use lib.ListN.{length, get_or, set, replicate, length-set}
-use lib.Seq.{get_or-set_same, get_or-set_other}
+use lib.ListN.{length, get_or, set, replicate, length-append, length-set}
 use Rattle.logic.specs.Cases.{cases}
 use Rattle.timemap.specs.declared.TimeMap.{TimeMap}
-use Rattle.timemap.specs.Maps.{still, passes}
+use Rattle.timemap.specs.Maps.{still}
 use Rattle.timemap.specs.Small.{Small}
 use Rattle.timemap.proofs.Within.{within-still, within-small}
 use Rattle.bodies.specs.Voice.{pairs}
@@ -35,7 +34,7 @@ use Rattle.mus.proofs.Accepted.{accepted-sound}
 use Rattle.walk.proofs.Closing.{differ}
 use Rattle.voicelength.specs.declared.reading.Open.{Open}
 use Rattle.voicelength.specs.Lasting.{map_of}
-use Rattle.voicelength.specs.Steps.{Readable}
+use Rattle.voicelength.specs.Readable.{Readable}
 use Rattle.voicelength.proofs.Weighing.{Weighed, none, after, weighing, none_after, after_none}
 use Rattle.voicelength.proofs.Weighing.{weighed_map, weighed_pairs, weighed_depth, Good}
 use Rattle.voicelength.proofs.Frames.{Opened, hed, def, rest, whole, heds, Ok, EachOk, rest-pairs, rest-depth}
@@ -45,50 +44,32 @@ abbrev pub open_of : Opened → Open
 open_of (hed n a) = record { before = a.map; number = n }
 open_of (def k a) = record { before = a.map; number = k }
 
-abbrev pub no_open : Open
-no_open = record { before = still; number = 0 }
+-- the list of the code: the bodies that are open, the innermost last
+abbrev pub opens_of : List Opened → List Open
+opens_of [] = []
+opens_of (f ∷ fs) = opens_of fs ++ open_of f ∷ []
 
-abbrev pub Holds : List Open → List Opened → Type 0
-Holds l [] = Unit
-Holds l (f ∷ fs) = (get_or l (length fs) no_open ≡ open_of f) × Holds l fs
+opens-length : (fs : List Opened) → length (opens_of fs) ≡ length fs
+opens-length [] = refl
+opens-length (f ∷ fs) = omega (arith, length-append (opens_of fs) (open_of f ∷ []), opens-length fs)
 
-holds_set : (l : List Open) (fs : List Opened) (d : ℕ) (x : Open) → length fs ≤ d → Holds l fs → Holds (set l d x) fs
-holds_set l [] d x h p = tt
-holds_set l (f ∷ fs) d x h p =
-    (get_or-set_other l d (length fs) x no_open (λ e. omega arith) ∙ p.0, holds_set l fs d x (omega arith) p.1)
-
-pub record Kept (around : List Open) (fs : List Opened) (depth : ℕ) : Type 0 where
+pub record Kept (around : List Open) (fs : List Opened) : Type 0 where
   pub ok : EachOk fs
-  pub holds : Holds around fs
-  pub deep : depth ≡ length fs
+  pub holds : around ≡ opens_of fs
   pub short : length fs ≤ heds fs + 1
-  pub size : length around ≡ 17
+
+pub kept-length : (around : List Open) (fs : List Opened) → Kept around fs → length around ≡ length fs
+kept-length around fs k = ap length k.holds ∙ opens-length fs
 
 pub record Known (phrases : List TimeMap) (table : ℕ → Weighed) : Type 0 where
   pub good : (k : ℕ) → Good (table k)
   pub knows : (k : ℕ) → get_or phrases k still ≡ (table k).map
   pub size : length phrases ≡ 24
 
-pub kept_push : (around : List Open) (fs : List Opened) (depth : ℕ) (f : Opened) → Ok f → length fs ≤ 16
-    → length (f ∷ fs) ≤ heds (f ∷ fs) + 1 → Kept around fs depth
-    → Kept (set around depth (open_of f)) (f ∷ fs) (depth + 1)
-kept_push around fs depth f ok low short k =
-    record {
-      ok = (ok, k.ok);
-      holds = (
-        subst (λ (d : ℕ). get_or (set around d (open_of f)) (length fs) no_open ≡ open_of f) (sym k.deep)
-            (get_or-set_same around (length fs) (open_of f) no_open (omega (arith, k.size))),
-        holds_set around fs depth (open_of f) (omega (arith, k.deep)) k.holds,
-      );
-      deep = omega (arith, k.deep);
-      short = short;
-      size = length-set around depth (open_of f) ∙ k.size;
-    }
-
-pub kept_pop : (around : List Open) (f : Opened) (fs : List Opened) (depth : ℕ) → length fs ≤ heds fs + 1
-    → Kept around (f ∷ fs) depth → Kept around fs (depth - 1)
-kept_pop around f fs depth short k =
-    record { ok = k.ok.1; holds = k.holds.1; deep = omega (arith, k.deep); short = short; size = k.size }
+pub kept_push : (around : List Open) (fs : List Opened) (f : Opened) → Ok f → length (f ∷ fs) ≤ heds (f ∷ fs) + 1
+    → Kept around fs → Kept (around ++ open_of f ∷ []) (f ∷ fs)
+kept_push around fs f ok short k =
+    record { ok = (ok, k.ok); holds = ap (λ (os : List Open). os ++ open_of f ∷ []) k.holds; short = short }
 
 pub known-learn : (phrases : List TimeMap) (table : ℕ → Weighed) (k : ℕ) (x : Weighed) → k < 24 → Good x
     → Known phrases table → Known (set phrases k x.map) (learn k x table)
@@ -101,7 +82,7 @@ known-learn phrases table k x low g t =
       size = length-set phrases k x.map ∙ t.size;
     }
 
-pub record Reading (bs : List ℕ) (around : List Open) (phrases : List TimeMap) (depth : ℕ) (now : TimeMap) (at : ℕ) : Type 0 where
+pub record Reading (bs : List ℕ) (around : List Open) (phrases : List TimeMap) (now : TimeMap) (at : ℕ) : Type 0 where
   pub here : Weighed
   pub frames : List Opened
   pub table : ℕ → Weighed
@@ -109,7 +90,7 @@ pub record Reading (bs : List ℕ) (around : List Open) (phrases : List TimeMap)
   pub whole_is : whole here frames table (open_at (pairs bs) at) ≡ of_voice weighing (pairs bs)
   pub chain : Chain frames (open_at (pairs bs) at)
   pub good : Good here
-  pub kept : Kept around frames depth
+  pub kept : Kept around frames
   pub known : Known phrases table
   pub readable : Readable bs
   pub bytes : (k : ℕ) → get_or bs k 0 < 256
@@ -119,8 +100,7 @@ still_at zero k = refl
 still_at (suc n) zero = refl
 still_at (suc n) (suc k) = still_at n k
 
-pub reading-start : (bs : List ℕ) → ((k : ℕ) → get_or bs k 0 < 256) → Readable bs → Reading bs (replicate 17 no_open)
-    (replicate 24 still) 0 still 0
+pub reading-start : (bs : List ℕ) → ((k : ℕ) → get_or bs k 0 < 256) → Readable bs → Reading bs [] (replicate 24 still) still 0
 unfolding rest open_at body_of
 reading-start bs bytes p =
     let s = accepted-sound (pairs bs) p.passes in
@@ -132,14 +112,14 @@ reading-start bs bytes p =
       whole_is = none_after _ ∙ one_pass_voice weighing (pairs bs) s;
       chain = start_fit _ _ s.ordered s.shut;
       good = within-still;
-      kept = record { ok = tt; holds = tt; deep = refl; short = omega arith; size = refl };
+      kept = record { ok = tt; holds = refl; short = omega arith };
       known = record { good = λ k. within-still; knows = still_at 24; size = refl };
       readable = p;
       bytes = bytes;
     }
 
-module _ {bs : List ℕ} {around : List Open} {phrases : List TimeMap} {depth : ℕ} {now : TimeMap} {at : ℕ}
-    (r : Reading bs around phrases depth now at) where
+module _ {bs : List ℕ} {around : List Open} {phrases : List TimeMap} {now : TimeMap} {at : ℕ}
+    (r : Reading bs around phrases now at) where
   abbrev pub left : List Body
   left = open_at (pairs bs) at
 

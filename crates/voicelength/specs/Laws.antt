@@ -1,6 +1,6 @@
 -- Laws of how long a voice lasts: its refusals, and how its time goes with a listing (window_in of
--- crates/events/specs/Listing.antt).
--- length-once               no two answers have the same outcome
+-- crates/events/specs/Listing.antt). That no two answers have the same outcome is outcome-once of
+-- crates/refusals/specs/Laws.antt.
 -- voice-first, file-next    41 by the voice, then the file's own refusal
 -- Timed, length-accepted    any other answer is the time of the voice asked for, of an accepted file
 -- length-given              each voice of an accepted file has a time
@@ -8,11 +8,11 @@
 --                           is the time divided by 384, rounded down
 -- every_jiffy               no jiffy listed is greater
 use Rattle.std.specs.Prelude.{ℕ, ◌+◌, ◌-◌, ◌/◌, ◌≤◌, ◌<◌, ◌≡◌, true, false, ◌||◌, List, ltb, length, get_or}
-use Rattle.std.proofs.Common.{sym, ◌∙◌}
+use Rattle.std.proofs.Common.{◌∙◌}
 use Rattle.std.proofs.Math.Path.{ap}
 use native.Mathlib.Omega.{arith}
 use Rattle.refusals.specs.Numbers.Outcome.{accepted, refused}
-use Rattle.refusals.specs.Laws.{two_ways, accepted-once, refused-once}
+use Rattle.refusals.specs.Laws.{accepted-once}
 use Rattle.clock.specs.Times.{time_of, jiffy_of}
 use Rattle.clock.specs.Laws.{times_rise, jiffies_rise}
 use Rattle.mus.specs.declared.Voice.{Voice}
@@ -25,16 +25,7 @@ use Rattle.mus.specs.AskedLaws.{number-first, asked-accepted}
 use Rattle.walk.specs.Times.{meanings}
 use Rattle.events.specs.Listing.{played_in, window_in}
 use Rattle.events.specs.Laws.{count_in, cell_jiffy}
-use Rattle.voicelength.specs.declared.LengthAnswer.{LengthAnswer}
-use Rattle.voicelength.specs.declared.LengthAnswer.TheVariants.{Ends, Refused}
-use Rattle.voicelength.specs.Length.{end_of, length_asked, outcome_of_length}
-
--- Two answers that have one outcome are one answer.
-pub length-once : (a b : LengthAnswer) → outcome_of_length a ≡ outcome_of_length b → a ≡ b
-length-once (Ends t) (Ends u) e = let same : t ≡ u = accepted-once e in rw same
-length-once (Ends t) (Refused y) e = absurd (two_ways (sym e))
-length-once (Refused x) (Ends u) e = absurd (two_ways e)
-length-once (Refused x) (Refused y) e = ap Refused (refused-once {X = ℕ} x y e)
+use Rattle.voicelength.specs.Length.{end_of, length_asked}
 
 -- What an answer with a time says: the number is 1 to 3, the file is accepted, and the time is that of the
 -- last event of the voice with that number.

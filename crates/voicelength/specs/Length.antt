@@ -3,25 +3,18 @@
 -- times are those of the listing (crates/events/specs/Listing.antt, crates/clock/specs/Times.antt).
 -- end_of             the exact time of the last of some events; the last of a played-out voice is its HLT
 -- length_asked       a voice by its number: 41, then the file's own refusal, then the time of its HLT
--- outcome_of_length   what an answer says
 use Rattle.std.specs.Prelude.{ℕ, ◌-◌, List, length}
 use Rattle.refusals.specs.Numbers.{Outcome}
-use Rattle.refusals.specs.Numbers.Outcome.{accepted, refused}
+use Rattle.refusals.specs.Numbers.Outcome.{accepted}
 use Rattle.refusals.specs.Tests.{and_then}
 use Rattle.clock.specs.Times.{time_of}
 use Rattle.bodies.specs.Bodies.{Event}
 use Rattle.mus.specs.Asked.{voice_asked}
 use Rattle.walk.specs.Times.{meanings}
 use Rattle.events.specs.Listing.{played_in}
-use Rattle.voicelength.specs.declared.LengthAnswer.{LengthAnswer}
-use Rattle.voicelength.specs.declared.LengthAnswer.TheVariants.{Ends, Refused}
 
 unfoldable pub end_of : List Event → ℕ
 end_of es = time_of (meanings es) (length es - 1)
 
 unfoldable pub length_asked : List ℕ → ℕ → Outcome ℕ
 length_asked f voice = and_then (voice_asked f voice) (λ v. accepted (end_of (played_in f v)))
-
-abbrev pub outcome_of_length : LengthAnswer → Outcome ℕ
-outcome_of_length (Ends t) = accepted t
-outcome_of_length (Refused x) = refused x.number x.place

@@ -1,5 +1,5 @@
 pub mod Length
 pub mod Lasting
-pub mod Steps
+pub mod Readable
 pub mod Laws
 pub mod Shows

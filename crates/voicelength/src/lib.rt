@@ -3,21 +3,15 @@
 #![tactic(auto)]
 
 ghost use Rattle.std.specs.Prelude.{◌≡◌};
+ghost use Rattle.refusals.specs.Numbers.{outcome_of};
 ghost use Rattle.events.specs.Listing.{played_in};
 ghost use Rattle.mus.specs.Bounds.{InSong};
-ghost use Rattle.voicelength.specs.Length.{end_of, length_asked, outcome_of_length};
+ghost use Rattle.voicelength.specs.Length.{end_of, length_asked};
 
-use mus::{Voice, VoiceAnswer};
+use mus::Voice;
 use refusals::Refusal;
 
 mod reading;
-
-// The answer to a voice: the exact time of its HLT in 384ths of a jiffy, or why there is none.
-#[derive(Clone, Copy)]
-pub enum LengthAnswer {
-    Ends(u64),
-    Refused(Refusal),
-}
 
 // The time of HLT of a voice of an accepted file.
 fn end_of(file: &[u8], v: Voice) -> u64
@@ -26,17 +20,14 @@ fn end_of(file: &[u8], v: Voice) -> u64
 {
     let from = v.offset;
     let len = v.length;
-    let map = reading::map_of(fields::part(file, from, len));
-    timemap::length(map, clock::at_start())
+    reading::map_of(fields::part(file, from, len)).length(clock::at_start())
 }
 
 // How long voice 1, 2 or 3 of a MUS file lasts. Refused with 41 for any other voice, else with the file's own
 // refusal.
-pub fn length(file: &[u8], voice: u32) -> LengthAnswer
-    ensures { outcome_of_length result ≡ length_asked file.now voice }
+pub fn length(file: &[u8], voice: u32) -> Result<u64, Refusal>
+    ensures { outcome_of result ≡ length_asked file.now voice }
 {
-    match mus::read_voice(file, voice) {
-        VoiceAnswer::Refused(x) => LengthAnswer::Refused(x),
-        VoiceAnswer::Accepted(v) => LengthAnswer::Ends(end_of(file, v)),
-    }
+    let v = mus::read_voice(file, voice)?;
+    Ok(end_of(file, v))
 }

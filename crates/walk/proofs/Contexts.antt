@@ -11,7 +11,8 @@
 -- later, to_walk                the events and the pairs after the body that is being walked, by the bodies
 --                              that are open around it
 -- BodyFits, OuterFit           the body that is being walked, and those around it, fit their context
--- Kept                         the walk keeps the context
+-- frames_of, frames-length     the frames that the walk keeps of a context, and how many
+-- topped                       the innermost of them
 -- Passed                       each HED and CAL in progress stands before pair far
 -- Onward                       a step that goes no further than the pair after this one, or to the body that
 --                              a CAL is given
@@ -20,17 +21,23 @@
 -- Walking                      all this at one pair of a walk, where the events es are still to come
 -- WalkingOn                    the same after a step
 use Prim.Native.Nat.{ℕ, ◌+◌, ◌-◌, ◌*◌, ◌<◌, ◌≤◌}
-use mathlib.Core.Path.{◌≡◌, refl}
+use mathlib.Core.Path.{◌≡◌, refl, ap, ◌∙◌}
 use mathlib.Core.Bool.{Bool, true, false}
-use mathlib.Core.List.{List, [], ◌++◌}
-use lib.ListN.{length, get_or}
+use mathlib.Core.List.{List, [], ◌∷◌, ◌++◌}
+use native.Mathlib.Omega.{arith}
+use lib.ListN.{length, length-append}
+use lib.Seq.{get_or-append_seam, take-append_seam}
+use Rattle.std.specs.Prelude.{Some}
+use Rattle.std.proofs.lemmas.Option.{slice_get-get_or}
 use Rattle.bodies.specs.Voice.{pairs}
 use Rattle.bodies.specs.Bodies.{Event, Closer, by_tal, by_end, by_stop, Body, done, event, repeat, phrase, call, inner, outer}
 use Rattle.bodies.specs.Playing.{interpret, phrases_of, copies, playing, walking, nesting}
 use Rattle.bodies.specs.Order.{Flat, Shut}
 use Rattle.bodies.specs.Places.{open_at, body_at}
+use Rattle.moves.specs.declared.Frame.{Frame}
 use Rattle.moves.specs.declared.Move.{Move}
 use Rattle.moves.specs.declared.Move.TheVariants.{Repeat, Phrase, Call, Tal, End}
+use Rattle.moves.specs.Moves.{top, below}
 
 pub data Context : Type 0 where
   outermost : Context
@@ -79,11 +86,25 @@ flat-closed c (repeat n i r) f s = (flat-closed by_tal i f.0 s.0, flat-closed c 
 flat-closed c (phrase k i r) f s = absurd f
 flat-closed c (call k r) f s = flat-closed c r f s
 
-unfoldable pub Kept : List ℕ → Context → Type 0
-Kept frames outermost = Unit
-Kept frames (repeating h l c) = (get_or frames (height c) 0 ≡ h * 256 + l) × Kept frames c
-Kept frames (standing c) = Kept frames c
-Kept frames (calling p c) = (get_or frames (height c) 0 ≡ p * 256 + 0) × Kept frames c
+-- the frames that the walk keeps of the repeats and calls among them
+abbrev pub frames_of : Context → List Frame
+frames_of outermost = []
+frames_of (repeating h l c) = frames_of c ++ Frame.Repeat (h + 1) l ∷ []
+frames_of (standing c) = frames_of c
+frames_of (calling p c) = frames_of c ++ Frame.Call (p + 1) ∷ []
+
+pub frames-length : (c : Context) → length (frames_of c) ≡ height c
+frames-length outermost = refl
+frames-length (repeating h l c) = omega (arith, length-append (frames_of c) (Frame.Repeat (h + 1) l ∷ []), frames-length c)
+frames-length (standing c) = frames-length c
+frames-length (calling p c) = omega (arith, length-append (frames_of c) (Frame.Call (p + 1) ∷ []), frames-length c)
+
+-- The innermost of some frames, and those around it.
+pub topped : {A : Type 0} (fs around : List A) (f : A) → fs ≡ around ++ f ∷ [] → (top fs ≡ Some f) × (below fs ≡ around)
+topped fs around f e =
+    let n : length (around ++ f ∷ []) - 1 ≡ length around = omega (arith, length-append around (f ∷ [])) in
+    let short : length around < length (around ++ f ∷ []) = omega (arith, length-append around (f ∷ [])) in
+    rw (e, n) (slice_get-get_or (around ++ f ∷ []) (length around) f short ∙ ap Some (get_or-append_seam around f [] f), take-append_seam around (f ∷ []))
 
 unfoldable pub Passed : ℕ → Context → Type 0
 Passed far outermost = Unit
@@ -149,16 +170,14 @@ module _ (bs : List ℕ) where
   Goes Tal body = Unit
   Goes End body = Unit
 
-  pub record Walking (at depth : ℕ) (frames : List ℕ) (left : ℕ) (es : List Event) : Type 0 where
+  pub record Walking (at : ℕ) (frames : List Frame) (left : ℕ) (es : List Event) : Type 0 where
     pub context : Context
     pub here : BodyFits (body_at (pairs bs) at) context
     pub around : OuterFit (outer (open_at (pairs bs) at)) context
-    pub kept : Kept frames context
-    pub deep : depth ≡ height context
-    pub frames-size : length frames ≡ 16
+    pub kept : frames ≡ frames_of context
     pub steps : left ≡ pairs_in (body_at (pairs bs) at) + to_walk (outer (open_at (pairs bs) at)) context
     pub events : es ≡ events_in (body_at (pairs bs) at) ++ later (outer (open_at (pairs bs) at)) context
 
-  pub record WalkingOn (at body : ℕ) (c : Context) (at' depth' : ℕ) (frames' : List ℕ) (left' : ℕ) (es' : List Event) : Type 0 where
-    pub walking : Walking at' depth' frames' left' es'
+  pub record WalkingOn (at body : ℕ) (c : Context) (at' : ℕ) (frames' : List Frame) (left' : ℕ) (es' : List Event) : Type 0 where
+    pub walking : Walking at' frames' left' es'
     pub onward : Onward at body c at' walking.context

@@ -7,7 +7,8 @@
 -- listing_ready, listing_move   the same of any other pair
 use Prim.Native.Nat.{ℕ, suc, ◌+◌, ◌-◌, ◌*◌, ◌/◌, ◌<◌, ◌≤◌}
 use mathlib.Core.Path.{◌≡◌, refl, ap, ◌∙◌, subst}
-use mathlib.Core.List.{List}
+use mathlib.Core.List.{List, []}
+use Rattle.std.specs.Prelude.{Some, None}
 use native.Mathlib.Omega.{arith}
 use borrow.Author.Tests.{ltb-false}
 use lib.ListN.{length, get_or}
@@ -20,8 +21,7 @@ use Rattle.bodies.specs.Playing.{played, events_of, walked_of}
 use Rattle.bodies.proofs.Cells.{blank}
 use Rattle.bodies.proofs.Related.{events-walked}
 use Rattle.moves.specs.declared.Move.{Move}
-use Rattle.moves.specs.declared.Next.TheVariants.{Event, Structure}
-use Rattle.moves.specs.declared.Place.{Place}
+use Rattle.moves.specs.declared.Frame.{Frame}
 use Rattle.cells.specs.declared.Cursor.{Cursor}
 use Rattle.moves.specs.Moves.{next_of, BoundedMove, Ready, place_after, frames_after}
 use Rattle.moves.specs.Noted.{body_in, starts_after}
@@ -38,10 +38,10 @@ use Rattle.walk.proofs.Facts.{Facts, facts}
 use Rattle.walk.proofs.Noted.{Noted, noted-start, noted-event, noted_move, noted-body}
 use Rattle.walk.proofs.Walks.{walk_start, walk-few, walk-some, walk-event, walk_ready, walk_move}
 
-pub record ListingSoFar (bs : List ℕ) (base first count : ℕ) (os₀ js₀ os js frames starts : List ℕ) (place : Place) (now : Clock) (cursor : Cursor) (left : ℕ) : Type 0 where
+pub record ListingSoFar (bs : List ℕ) (base first count : ℕ) (os₀ js₀ os js : List ℕ) (frames : List Frame) (starts : List ℕ) (at : ℕ) (now : Clock) (cursor : Cursor) (left : ℕ) : Type 0 where
   pub events : List bodies.Event
-  pub walk : Walking bs place.at place.depth frames left events
-  pub noted : Noted bs place.at walk.context starts
+  pub walk : Walking bs at frames left events
+  pub noted : Noted bs at walk.context starts
   pub offsets : Fills count cursor (offsets_of base events) os (filled first count (offsets_of base (played (pairs bs))) os₀)
   pub jiffies : Fills count cursor (jiffies_from now.time now.values (meanings events)) js (filled first count (jiffies_of (played (pairs bs))) js₀)
   pub offsets-length : length os ≡ length os₀
@@ -55,7 +55,7 @@ pub record ListingSoFar (bs : List ℕ) (base first count : ℕ) (os₀ js₀ os
   pub low : base ≤ 65536
 
 pub listing_start : (bs : List ℕ) (base first count walked : ℕ) (os js : List ℕ) → Listable bs base first count walked os js
-    → ListingSoFar bs base first count os js os js (blank 16) (blank 24) (record { at = 0; depth = 0 }) (record { time = 0; values = at_start }) (record { skip = first; filled = 0 }) walked
+    → ListingSoFar bs base first count os js os js [] (blank 24) 0 (record { time = 0; values = at_start }) (record { skip = first; filled = 0 }) walked
 unfolding jiffies_of events_of
 listing_start bs base first count walked os js l =
     let w = walk_start bs walked l.passes l.steps in
@@ -76,8 +76,8 @@ listing_start bs base first count walked os js l =
       low = l.low;
     }
 
-module _ {bs : List ℕ} {base first count : ℕ} {os₀ js₀ os js frames starts : List ℕ} {place : Place} {now : Clock} {cursor : Cursor} {left : ℕ}
-    (l : ListingSoFar bs base first count os₀ js₀ os js frames starts place now cursor left) where
+module _ {bs : List ℕ} {base first count : ℕ} {os₀ js₀ os js : List ℕ} {frames : List Frame} {starts : List ℕ} {at : ℕ} {now : Clock} {cursor : Cursor} {left : ℕ}
+    (l : ListingSoFar bs base first count os₀ js₀ os js frames starts at now cursor left) where
   pub listing-end : count ≤ cursor.filled → (os ≡ filled first count (offsets_of base (played (pairs bs))) os₀) × (js ≡ filled first count (jiffies_of (played (pairs bs))) js₀)
   listing-end h = (
     fills_end count cursor _ os _ l.offsets (omega (arith, l.upto)),
@@ -89,26 +89,26 @@ module _ {bs : List ℕ} {base first count : ℕ} {os₀ js₀ os js frames star
     some_left : 0 < length l.events
     some_left = omega (arith, l.enough)
 
-    pub listing-next : (place.at < length bs / 2) × (0 < left)
+    pub listing-next : (at < length bs / 2) × (0 < left)
     listing-next = (
-      walk-some bs place.at place.depth frames left l.events l.walk some_left,
-      omega (arith, walk-few bs place.at place.depth frames left l.events l.walk, some_left),
+      walk-some bs at frames left l.events l.walk some_left,
+      omega (arith, walk-few bs at frames left l.events l.walk, some_left),
     )
 
-    pub listing-timed : Timed bs base place.at now
+    pub listing-timed : Timed bs base at now
     listing-timed = record { there = omega (arith, listing-next.0); short = l.short; low = l.low; early = omega (arith, l.bounded) }
 
     pub listing-room : (cursor.filled < length os) × (cursor.filled < length js)
     listing-room = (omega (arith, l.offsets.room), omega (arith, l.jiffies.room))
 
-    module _ {event : Turn} {os' js' : List ℕ} {cursor' : Cursor} (bytes : (k : ℕ) → get_or bs k 0 < 256) (e : next_of (kind_of (pair_at bs place.at)) ≡ Event)
-        (t : event ≡ turn_of base place.at now (pair_at bs place.at)) where
+    module _ {event : Turn} {os' js' : List ℕ} {cursor' : Cursor} (bytes : (k : ℕ) → get_or bs k 0 < 256) (e : next_of (kind_of (pair_at bs at)) ≡ None)
+        (t : event ≡ turn_of base at now (pair_at bs at)) where
       pub listing-event : cursor' ≡ cursor_after cursor → os' ≡ cells_after cursor event.offset os → js' ≡ cells_after cursor event.jiffy js
-          → ListingSoFar bs base first count os₀ js₀ os' js' frames starts (record { at = place.at + 1; depth = place.depth }) event.after cursor' (left - 1)
+          → ListingSoFar bs base first count os₀ js₀ os' js' frames starts (at + 1) event.after cursor' (left - 1)
       unfolding offsets_of jiffies_from pair_at
       listing-event ec eo ej =
-          let g = walk-event bs place.at place.depth frames left l.events l.walk listing-next.0 e in
-          let m = pair_at bs place.at in
+          let g = walk-event bs at frames left l.events l.walk listing-next.0 e in
+          let m = pair_at bs at in
           let time = now.time in
           let values = now.values in
           let size : length l.events ≡ suc (length g.0) = ap length g.1 in
@@ -117,8 +117,8 @@ module _ {bs : List ℕ} {base first count : ℕ} {os₀ js₀ os js frames star
           record {
             events = g.0;
             walk = g.2.walking;
-            noted = noted-event bs place.at l.walk.context starts l.noted (place.at + 1) g.2.walking.context e g.2.onward;
-            offsets = fills_step count cursor (base + 2 * place.at) (offsets_of base g.0) os _ (subst (λ (x : List bodies.Event). Fills count cursor (offsets_of base x) os (filled first count (offsets_of base (played (pairs bs))) os₀)) g.1 l.offsets) h;
+            noted = noted-event bs at l.walk.context starts l.noted (at + 1) g.2.walking.context e g.2.onward;
+            offsets = fills_step count cursor (base + 2 * at) (offsets_of base g.0) os _ (subst (λ (x : List bodies.Event). Fills count cursor (offsets_of base x) os (filled first count (offsets_of base (played (pairs bs))) os₀)) g.1 l.offsets) h;
             jiffies =
                 fills_step count cursor (time / 384) (jiffies_from (time + length_of values m) (values_after values m) (meanings g.0)) js _
                 (subst (λ (x : List bodies.Event). Fills count cursor (jiffies_from time values (meanings x)) js (filled first count (jiffies_of (played (pairs bs))) js₀)) g.1 l.jiffies) h;
@@ -126,28 +126,28 @@ module _ {bs : List ℕ} {base first count : ℕ} {os₀ js₀ os js frames star
             jiffies-length = cells-length cursor _ js ∙ l.jiffies-length;
             upto = moved.0;
             enough = moved.1;
-            byte-values = byte-values-after values (get_or bs (2 * place.at) 0) (get_or bs (2 * place.at + 1) 0) (bytes (2 * place.at)) (bytes (2 * place.at + 1)) l.byte-values;
+            byte-values = byte-values-after values (get_or bs (2 * at) 0) (get_or bs (2 * at + 1) 0) (bytes (2 * at)) (bytes (2 * at + 1)) l.byte-values;
             bounded = omega (arith, l.bounded, length-bound values m l.byte-values);
             facts = l.facts;
             short = l.short;
             low = l.low;
           }
 
-    module _ (m : Move) (e : next_of (kind_of (pair_at bs place.at)) ≡ Structure m) (b : BoundedMove m) where
-      pub listing_ready : Ready m place
-      listing_ready = walk_ready bs place.at place.depth frames left l.events l.walk l.facts l.short listing-next.0 m e b
+    module _ (m : Move) (e : next_of (kind_of (pair_at bs at)) ≡ Some m) (b : BoundedMove m) where
+      pub listing_ready : Ready m at frames
+      listing_ready = walk_ready bs at frames left l.events l.walk l.short listing-next.0 m e
 
-      pub listing_move : {body : ℕ} {place' : Place} {frames' starts' : List ℕ} → body ≡ body_in m starts → starts' ≡ starts_after m place.at starts
-          → place' ≡ place_after m place body frames → frames' ≡ frames_after m place frames
-          → ListingSoFar bs base first count os₀ js₀ os js frames' starts' place' now cursor (left - 1)
+      pub listing_move : {body : ℕ} {at' : ℕ} {frames' : List Frame} {starts' : List ℕ} → body ≡ body_in m starts → starts' ≡ starts_after m at starts
+          → at' ≡ place_after m at body frames → frames' ≡ frames_after m at frames
+          → ListingSoFar bs base first count os₀ js₀ os js frames' starts' at' now cursor (left - 1)
       listing_move eb es ep ef =
-          let goes = noted-body bs place.at l.walk.context starts l.noted l.facts listing-next.0 m e in
-          let g = walk_move bs place.at place.depth frames left l.events l.walk l.facts listing-next.0 m e b (body_in m starts) goes in
+          let goes = noted-body bs at l.walk.context starts l.noted l.facts listing-next.0 m e in
+          let g = walk_move bs at frames left l.events l.walk l.facts listing-next.0 m e b (body_in m starts) goes in
           rw (ep, ef, es, eb)
           record {
             events = l.events;
             walk = g.walking;
-            noted = noted_move bs place.at l.walk.context starts l.noted l.facts listing-next.0 m e b _ g.walking.context g.onward;
+            noted = noted_move bs at l.walk.context starts l.noted l.facts listing-next.0 m e b _ g.walking.context g.onward;
             offsets = l.offsets;
             jiffies = l.jiffies;
             offsets-length = l.offsets-length;

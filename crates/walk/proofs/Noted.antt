@@ -17,7 +17,7 @@ use Rattle.bodies.specs.Voice.{pair_at}
 use Rattle.bodies.proofs.Cells.{blank}
 use Rattle.moves.specs.declared.Move.{Move}
 use Rattle.moves.specs.declared.Move.TheVariants.{Repeat, Phrase, Call, Tal, End}
-use Rattle.moves.specs.declared.Next.TheVariants.{Event, Structure}
+use Rattle.std.specs.Prelude.{Some, None}
 use Rattle.moves.specs.Moves.{next_of, BoundedMove}
 use Rattle.moves.specs.Noted.{body_in, starts_after}
 use Rattle.walk.proofs.Contexts.{Context, outermost, repeating, standing, calling, Passed, Onward, Start, Goes}
@@ -83,9 +83,9 @@ module _ (bs : List ℕ) where
         number j (yes x) old = same j (sym x)
         number j (no x) old = rw (get_or-set_other starts k j (at + 1) 0 x) old
 
-    pub noted-event : (at' : ℕ) (c' : Context) → next_of (kind_of (pair_at bs at)) ≡ Event → Onward at 0 c at' c' → Noted at' c' starts
+    pub noted-event : (at' : ℕ) (c' : Context) → next_of (kind_of (pair_at bs at)) ≡ None → Onward at 0 c at' c' → Noted at' c' starts
     noted-event at' c' e onward =
-        noted_same 0 at' c' onward (omega arith) (λ k d. let x : Structure (Phrase k) ≡ Event = sym (ap next_of d) ∙ e in let z : ◌≡◌ {A = ℕ} 0 1 = cc in omega arith)
+        noted_same 0 at' c' onward (omega arith) (λ k d. let x : Some (Phrase k) ≡ None = sym (ap next_of d) ∙ e in let z : ◌≡◌ {A = ℕ} 0 1 = cc in omega arith)
 
     -- where a CAL goes, by its DEF before it
     called : Facts bs → at < length bs / 2 → (k : ℕ) → kind_of (pair_at bs at) ≡ Cal k → Found n.far starts k
@@ -101,7 +101,7 @@ module _ (bs : List ℕ) where
     moved f i Tal e b at' c' onward = noted_same 0 at' c' onward (omega arith) (λ k d. let z : ◌≡◌ {A = ℕ} 0 1 = cc in omega arith)
     moved f i End e b at' c' onward = noted_same 0 at' c' onward (omega arith) (λ k d. let z : ◌≡◌ {A = ℕ} 0 1 = cc in omega arith)
 
-    pub noted_move : Facts bs → at < length bs / 2 → (m : Move) → next_of (kind_of (pair_at bs at)) ≡ Structure m → BoundedMove m → (at' : ℕ) (c' : Context)
+    pub noted_move : Facts bs → at < length bs / 2 → (m : Move) → next_of (kind_of (pair_at bs at)) ≡ Some m → BoundedMove m → (at' : ℕ) (c' : Context)
         → Onward at (body_in m starts) c at' c' → Noted at' c' (starts_after m at starts)
     noted_move f i m e b at' c' onward = moved f i m (move_kind _ m e) b at' c' onward
 
@@ -113,5 +113,5 @@ module _ (bs : List ℕ) where
     goes f i Tal e = tt
     goes f i End e = tt
 
-    pub noted-body : Facts bs → at < length bs / 2 → (m : Move) → next_of (kind_of (pair_at bs at)) ≡ Structure m → Goes bs m (body_in m starts)
+    pub noted-body : Facts bs → at < length bs / 2 → (m : Move) → next_of (kind_of (pair_at bs at)) ≡ Some m → Goes bs m (body_in m starts)
     noted-body f i m e = goes f i m (move_kind _ m e)

@@ -14,25 +14,23 @@ use native.Mathlib.Decide.{dec_lt}
 use native.Mathlib.Omega.{arith}
 use borrow.Author.Tests.{ltb-false}
 use lib.ListN.{length, length-append}
+use Rattle.std.specs.Prelude.{Some, None}
 use Rattle.kind.specs.declared.Kind.{Kind}
-use Rattle.kind.specs.declared.Kind.TheVariants as Kind
 use Rattle.kind.specs.Kinds.{kind_of}
 use Rattle.bodies.specs.Voice.{pairs, pair_at}
 use Rattle.bodies.specs.Bodies as bodies
-use Rattle.bodies.specs.Bodies.{by_tal, by_stop, Body, done, repeat, call, inner, outer, event_at, body_of}
+use Rattle.bodies.specs.Bodies.{by_stop, Body, done, repeat, call, inner, outer, event_at, body_of}
 use Rattle.bodies.specs.Playing.{interpret, phrases_of, copies, playing, walking, played, walked_of, depth_of}
 use Rattle.bodies.specs.Places.{open_at, body_at}
-use Rattle.bodies.proofs.Cells.{blank}
 use Rattle.bodies.proofs.Related.{related, related-phrases, length-copies, few, fewer}
 use Rattle.bodies.proofs.Stored.{open_end, event_at_lem, hlt_at, bad_at, hed_at, tal_at, def_at, end_at, cal_at}
 use Rattle.mus.specs.Acceptance.{Passes}
 use Rattle.mus.proofs.Accepted.{accepted-sound}
 use Rattle.moves.specs.declared.Move.{Move}
 use Rattle.moves.specs.declared.Move.TheVariants.{Repeat, Phrase, Call, Tal, End}
-use Rattle.moves.specs.declared.Next.TheVariants.{Event, Structure}
-use Rattle.moves.specs.declared.Place.{Place}
+use Rattle.moves.specs.declared.Frame.{Frame}
 use Rattle.moves.specs.Moves.{next_of, BoundedMove, Room, Ready, place_after, frames_after}
-use Rattle.walk.proofs.Contexts.{Context, outermost, repeating, standing, calling, height, closer_of, Closed, shut-closed, Kept, Passed, events_in, pairs_in, later, to_walk, OuterFit, Goes, Walking, WalkingOn}
+use Rattle.walk.proofs.Contexts.{Context, outermost, repeating, standing, calling, height, closer_of, Closed, shut-closed, frames-length, Passed, events_in, pairs_in, later, to_walk, OuterFit, Goes, Walking, WalkingOn}
 use Rattle.walk.proofs.Facts.{Facts}
 use Rattle.walk.proofs.Steps.{event-step, repeat-step, phrase-step, call_step, opened}
 use Rattle.walk.proofs.Closing.{differ, tal-step, end_step}
@@ -45,16 +43,16 @@ kind_in (Call k) = Kind.Cal k
 kind_in Tal = Kind.Tal
 kind_in End = Kind.End
 
-pub move_kind : (z : Kind) (m : Move) → next_of z ≡ Structure m → z ≡ kind_in m
+pub move_kind : (z : Kind) (m : Move) → next_of z ≡ Some m → z ≡ kind_in m
 move_kind z m e = go z e
   where
-    no-event : Event ≡ Structure m → ⊥
+    no-event : None ≡ Some m → ⊥
     no-event q = let z : ◌≡◌ {A = ℕ} 0 1 = cc in omega arith
 
-    by : (x : Move) → Structure x ≡ Structure m → kind_in x ≡ kind_in m
+    by : (x : Move) → Some x ≡ Some m → kind_in x ≡ kind_in m
     by x q = let same : x ≡ m = cc in ap kind_in same
 
-    go : (z : Kind) → next_of z ≡ Structure m → z ≡ kind_in m
+    go : (z : Kind) → next_of z ≡ Some m → z ≡ kind_in m
     go Kind.Event q = absurd (no-event q)
     go (Kind.Hed n) q = by (Repeat n) q
     go Kind.Tal q = by Tal q
@@ -65,17 +63,15 @@ move_kind z m e = go z e
     go (Kind.Bad n) q = absurd (no-event q)
 
 module _ (bs : List ℕ) where
-  pub walk_start : (left : ℕ) → Passes (pairs bs) → left ≡ walked_of (pairs bs) → (w : Walking bs 0 0 (blank 16) left (played (pairs bs))) × Passed 0 w.context
-  unfolding OuterFit Kept Passed later to_walk played walked_of depth_of open_at body_at body_of
+  pub walk_start : (left : ℕ) → Passes (pairs bs) → left ≡ walked_of (pairs bs) → (w : Walking bs 0 [] left (played (pairs bs))) × Passed 0 w.context
+  unfolding OuterFit Passed later to_walk played walked_of depth_of open_at body_at body_of
   walk_start left p e =
       let s = accepted-sound (pairs bs) p in (
         record {
           context = outermost;
           here = record { is-closed = shut-closed by_stop (body_of (pairs bs)) s.shut; low = omega (arith, ltb-false 16 (depth_of (pairs bs)) p.limits.0) };
           around = tt;
-          kept = tt;
-          deep = refl;
-          frames-size = refl;
+          kept = refl;
           steps = e ∙ omega arith;
           events = sym (append-nil _);
         },
@@ -102,7 +98,7 @@ module _ (bs : List ℕ) where
       let o = outer (open_at (pairs bs) (p + 1)) in
       omega (arith, length-append (events_in bs b) (later bs o c), few-events b, few-later o c)
 
-  module _ (at depth : ℕ) (frames : List ℕ) (left : ℕ) (es : List bodies.Event) (w : Walking bs at depth frames left es) where
+  module _ (at : ℕ) (frames : List Frame) (left : ℕ) (es : List bodies.Event) (w : Walking bs at frames left es) where
     pub walk-few : length es ≤ left
     walk-few =
         let b = body_at (pairs bs) at in
@@ -131,73 +127,57 @@ module _ (bs : List ℕ) where
         go (yes p) = p
         go (no p) = absurd (let z : length es ≡ 0 = ap length (none_left (omega arith)) in omega arith)
 
-    pub walk-event : at < length bs / 2 → next_of (kind_of (pair_at bs at)) ≡ Event
-        → (rest : List bodies.Event) × (es ≡ event_at at (pair_at bs at) ∷ rest) × WalkingOn bs at 0 w.context (at + 1) depth frames (left - 1) rest
+    pub walk-event : at < length bs / 2 → next_of (kind_of (pair_at bs at)) ≡ None
+        → (rest : List bodies.Event) × (es ≡ event_at at (pair_at bs at) ∷ rest) × WalkingOn bs at 0 w.context (at + 1) frames (left - 1) rest
     walk-event i e = go (kind_of (pair_at bs at)) refl e
       where
-        other : {m : Move} → Structure m ≡ Event → ⊥
+        other : {m : Move} → Some m ≡ None → ⊥
         other q = let z : ◌≡◌ {A = ℕ} 0 1 = cc in omega arith
 
-        go : (z : Kind) → kind_of (pair_at bs at) ≡ z → next_of z ≡ Event
-            → (rest : List bodies.Event) × (es ≡ event_at at (pair_at bs at) ∷ rest) × WalkingOn bs at 0 w.context (at + 1) depth frames (left - 1) rest
-        go Kind.Event q n = event-step bs at depth frames left es w _ (event_at_lem bs at i q)
+        go : (z : Kind) → kind_of (pair_at bs at) ≡ z → next_of z ≡ None
+            → (rest : List bodies.Event) × (es ≡ event_at at (pair_at bs at) ∷ rest) × WalkingOn bs at 0 w.context (at + 1) frames (left - 1) rest
+        go Kind.Event q n = event-step bs at frames left es w _ (event_at_lem bs at i q)
         go (Kind.Hed k) q n = absurd (other n)
         go Kind.Tal q n = absurd (other n)
         go (Kind.Def k) q n = absurd (other n)
         go Kind.End q n = absurd (other n)
         go (Kind.Cal k) q n = absurd (other n)
-        go Kind.Hlt q n = event-step bs at depth frames left es w _ (hlt_at bs at i q)
-        go (Kind.Bad b) q n = event-step bs at depth frames left es w _ (bad_at bs at i b q)
+        go Kind.Hlt q n = event-step bs at frames left es w _ (hlt_at bs at i q)
+        go (Kind.Bad b) q n = event-step bs at frames left es w _ (bad_at bs at i b q)
 
-    abbrev place : Place
-    place = record { at = at; depth = depth }
-
-    -- TAL closes a repeat, which is kept
-    some-kept : (c : Context) → closer_of c ≡ by_tal → depth ≡ height c → 0 < depth
-    some-kept outermost e d = absurd (let z : ◌≡◌ {A = ℕ} 2 0 = differ e in omega arith)
-    some-kept (repeating h l c) e d = omega arith
-    some-kept (standing c) e d = absurd (let z : ◌≡◌ {A = ℕ} 1 0 = differ e in omega arith)
-    some-kept (calling p c) e d = absurd (let z : ◌≡◌ {A = ℕ} 1 0 = differ e in omega arith)
-
-    tal-kept : open_at (pairs bs) at ≡ done by_tal ∷ open_at (pairs bs) (at + 1) → 0 < depth
-    unfolding Closed
-    tal-kept q =
-        let is-closed : closer_of w.context ≡ by_tal = rw (opened bs at (done by_tal) (open_at (pairs bs) (at + 1)) q).0 at w.here.is-closed in
-        some-kept w.context is-closed w.deep
+    walk-deep : length frames ≡ height w.context
+    walk-deep = ap length w.kept ∙ frames-length w.context
 
     -- one more may be in progress
-    repeat-room : (n : ℕ) (i r : Body) (rest : List Body) → open_at (pairs bs) at ≡ repeat n i r ∷ rest → depth < 16
+    repeat-room : (n : ℕ) (i r : Body) (rest : List Body) → open_at (pairs bs) at ≡ repeat n i r ∷ rest → length frames < 16
     unfolding interpret
-    repeat-room n i r rest q = omega (arith, rw (opened bs at (repeat n i r) rest q).0 at w.here.low, w.deep)
+    repeat-room n i r rest q = omega (arith, rw (opened bs at (repeat n i r) rest q).0 at w.here.low, walk-deep)
 
-    call-room : (k : ℕ) (r : Body) (rest : List Body) → open_at (pairs bs) at ≡ call k r ∷ rest → depth < 16
+    call-room : (k : ℕ) (r : Body) (rest : List Body) → open_at (pairs bs) at ≡ call k r ∷ rest → length frames < 16
     unfolding interpret
-    call-room k r rest q = omega (arith, rw (opened bs at (call k r) rest q).0 at w.here.low, w.deep)
+    call-room k r rest q = omega (arith, rw (opened bs at (call k r) rest q).0 at w.here.low, walk-deep)
 
     -- what a move may count on
-    room : Facts bs → at < length bs / 2 → (m : Move) → kind_of (pair_at bs at) ≡ kind_in m → BoundedMove m → Room m depth
-    room f i (Repeat n) e b = (b, repeat-room n _ _ _ (hed_at bs at i n e))
-    room f i (Phrase k) e b = b
-    room f i (Call k) e b = (b, call-room k _ _ (cal_at bs at i k e))
-    room f i Tal e b = tal-kept (tal_at bs at i e)
-    room f i End e b = tt
+    room : at < length bs / 2 → (m : Move) → kind_of (pair_at bs at) ≡ kind_in m → Room m (length frames)
+    room i (Repeat n) e = repeat-room n _ _ _ (hed_at bs at i n e)
+    room i (Phrase k) e = tt
+    room i (Call k) e = call-room k _ _ (cal_at bs at i k e)
+    room i Tal e = tt
+    room i End e = tt
 
     -- where it leads
     moved : Facts bs → at < length bs / 2 → (m : Move) → kind_of (pair_at bs at) ≡ kind_in m → BoundedMove m → (body : ℕ) → Goes bs m body
-        → WalkingOn bs at body w.context (place_after m place body frames).at (place_after m place body frames).depth (frames_after m place frames) (left - 1) es
+        → WalkingOn bs at body w.context (place_after m at body frames) (frames_after m at frames) (left - 1) es
     unfolding place_after frames_after
-    moved f i (Repeat n) e b body g = repeat-step bs at depth frames left es w n (hed_at bs at i n e) (f.hed at n i e) b body
-    moved f i (Phrase k) e b body g = phrase-step bs at depth frames left es w k (def_at bs at i k e) body
-    moved f i (Call k) e b body g = call_step bs at depth frames left es w k (cal_at bs at i k e) body g
-    moved f i Tal e b body g = tal-step bs at depth frames left es w (tal_at bs at i e) body
-    moved f i End e b body g = end_step bs at depth frames left es w (end_at bs at i e) body
+    moved f i (Repeat n) e b body g = repeat-step bs at frames left es w n (hed_at bs at i n e) (f.hed at n i e) b body
+    moved f i (Phrase k) e b body g = phrase-step bs at frames left es w k (def_at bs at i k e) body
+    moved f i (Call k) e b body g = call_step bs at frames left es w k (cal_at bs at i k e) body g
+    moved f i Tal e b body g = tal-step bs at frames left es w (tal_at bs at i e) body
+    moved f i End e b body g = end_step bs at frames left es w (end_at bs at i e) body
 
-    pub walk-low : depth ≤ 16
-    walk-low = omega (arith, w.here.low, w.deep)
+    pub walk_ready : length bs ≤ 65536 → at < length bs / 2 → (m : Move) → next_of (kind_of (pair_at bs at)) ≡ Some m → Ready m at frames
+    walk_ready s i m e = record { few = omega arith; low = omega (arith, w.here.low, walk-deep); room = room i m (move_kind _ m e) }
 
-    pub walk_ready : Facts bs → length bs ≤ 65536 → at < length bs / 2 → (m : Move) → next_of (kind_of (pair_at bs at)) ≡ Structure m → BoundedMove m → Ready m place
-    walk_ready f s i m e b = record { few = omega arith; low = walk-low; room = room f i m (move_kind _ m e) b }
-
-    pub walk_move : Facts bs → at < length bs / 2 → (m : Move) → next_of (kind_of (pair_at bs at)) ≡ Structure m → BoundedMove m → (body : ℕ) → Goes bs m body
-        → WalkingOn bs at body w.context (place_after m place body frames).at (place_after m place body frames).depth (frames_after m place frames) (left - 1) es
+    pub walk_move : Facts bs → at < length bs / 2 → (m : Move) → next_of (kind_of (pair_at bs at)) ≡ Some m → BoundedMove m → (body : ℕ) → Goes bs m body
+        → WalkingOn bs at body w.context (place_after m at body frames) (frames_after m at frames) (left - 1) es
     walk_move f i m e b body g = moved f i m (move_kind _ m e) b body g

@@ -9,7 +9,7 @@ ghost use Rattle.walk.specs.Times.{offsets_of, jiffies_of};
 ghost use Rattle.walk.specs.Bounds.{Listable};
 
 use cells::Cursor;
-use moves::{Next, Place, noted};
+use moves::{Frames, noted};
 use turn::Clock;
 
 mod turn;
@@ -29,9 +29,9 @@ pub fn list_voice(
     requires { Listable voice.now base first count walked offsets.old jiffies.old }
     ensures { (offsets.new ≡ filled first count (offsets_of base (played (pairs voice.now))) offsets.old) × (jiffies.new ≡ filled first count (jiffies_of (played (pairs voice.now))) jiffies.old) }
 {
-    let mut frames = [0u32; 16];
+    let mut frames = Frames::new();
     let mut starts = [0u16; 24];
-    let mut place = Place { at: 0, depth: 0 };
+    let mut at = 0;
     let mut now = Clock {
         time: 0,
         values: clock::at_start(),
@@ -40,22 +40,20 @@ pub fn list_voice(
         skip: first,
         filled: 0,
     };
+    // It counts no index: that fewer pairs are left at each turn shows that the walk ends.
     let mut left = walked;
     while cursor.filled < count {
         left -= 1;
-        let at = place.at;
-        let depth = place.depth;
         match moves::next_at(voice, at) {
-            Next::Event => {
+            None => {
                 let event = turn::turn_at(voice, base, at, now);
                 cursor = cells::put(cursor, event.offset, event.jiffy, offsets, jiffies);
                 now = event.after;
-                let next = at + 1;
-                place = Place { at: next, depth };
+                at += 1;
             }
-            Next::Structure(m) => {
+            Some(m) => {
                 let body = noted::body_of(m, at, &mut starts);
-                place = moves::go_on(m, place, body, &mut frames);
+                at = moves::go_on(m, at, body, &mut frames);
             }
         }
     }

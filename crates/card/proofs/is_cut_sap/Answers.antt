@@ -1,5 +1,4 @@
 -- `card::is_cut_sap` meets its contract: by what the first bytes are.
-use borrow.Author.Rules.{rules}
 use Rattle.card.proofs.is_cut_sap.Goals as goal
 
 pub returns : goal.returns

@@ -1,5 +1,4 @@
 -- `card::judge` meets its contract: the file's first five bytes decide.
-use borrow.Author.Rules.{rules}
 use borrow.Author.Tests.{eq-eqb, ne_eqb}
 use Rattle.card.proofs.judge.Goals as goal
 

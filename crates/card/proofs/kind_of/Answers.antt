@@ -1,8 +1,7 @@
 -- `card::kind_of` meets its contract: the file's first five bytes decide, and then the outcome of its head.
 use mathlib.Core.Path.{sym, ap, ◌∙◌}
-use borrow.Author.Rules.{rules}
 use borrow.Author.Tests.{eq-eqb, ne_eqb}
-use Rattle.container.specs.Head.{outcome_of_head}
+use Rattle.refusals.specs.Numbers.{outcome_of}
 use Rattle.card.specs.Kinds.{head_kind}
 use Rattle.card.proofs.kind_of.Goals as goal
 
@@ -22,22 +21,22 @@ returns-then-begins c =
       c.if-begins.true,
     ) c.sap_kind.ensures
 
-pub returns-in-Refused : goal.returns-in-Refused
-returns-in-Refused c =
+pub returns-in-Err : goal.returns-in-Err
+returns-in-Err c =
     rw (
       ← c.be32-magic.ensures,
       ne_eqb _ _ c.if-magic-eq-PSID.false,
       ne_eqb _ _ c.if-magic-eq-RSID.false,
       ← c.begins.ensures,
       c.if-begins.false,
-    ) (ap head_kind (ap outcome_of_head (sym c.in-Refused.is) ∙ c.read_head.ensures))
+    ) (ap head_kind (ap outcome_of (sym c.in-Err.is) ∙ c.read_head.ensures))
 
-pub returns-in-Fits : goal.returns-in-Fits
-returns-in-Fits c =
+pub returns-in-Ok : goal.returns-in-Ok
+returns-in-Ok c =
     rw (
       ← c.be32-magic.ensures,
       ne_eqb _ _ c.if-magic-eq-PSID.false,
       ne_eqb _ _ c.if-magic-eq-RSID.false,
       ← c.begins.ensures,
       c.if-begins.false,
-    ) (ap head_kind (ap outcome_of_head (sym c.in-Fits.is) ∙ c.read_head.ensures))
+    ) (ap head_kind (ap outcome_of (sym c.in-Ok.is) ∙ c.read_head.ensures))

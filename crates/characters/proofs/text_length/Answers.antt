@@ -1,21 +1,13 @@
-use mathlib.Core.Path.{sym, ap}
-use native.Mathlib.Omega.{arith}
-use lib.ListN.{length}
+-- `text_length` meets its contract: what `take_while` gives is what leads. Assumes nothing.
+use Rattle.std.proofs.Common.{length, ap, ◌∙◌, rules, tests}
+use Rattle.std.proofs.lemmas.Iterator.{YieldsList-from_slice}
+use Rattle.std.proofs.lemmas.Iterator.Consumers.{count_from_yields_List}
+use Rattle.std.proofs.lemmas.Iterator.Search.{YieldsList-from_take_while}
 use Rattle.characters.specs.Characters.{is_text_character}
-use Rattle.characters.proofs.Counting.{none_past, counted-closed, counted-more, counted_all}
+use Rattle.characters.proofs.Counting.{taken}
 use Rattle.characters.proofs.text_length.Goals as goal
 
-pub returns-then-file-at : goal.returns-then-file-at
-returns-then-file-at c = sym (ap length (none_past is_text_character _ _ c.if-file-at.true))
-
-pub loop-n-init : goal.loop-n-init
-loop-n-init c = (omega arith, omega arith, omega arith)
-
-pub returns-then-not-plain-b : goal.returns-then-not-plain-b
-returns-then-not-plain-b c = counted-closed is_text_character _ _ _ c.loop-n.invariant c.loop-n-test.true c.if-not-plain-b.true
-
-pub loop-n-preserved : goal.loop-n-preserved
-loop-n-preserved c = counted-more is_text_character _ _ _ c.loop-n.invariant c.loop-n-test.true c.if-not-plain-b.false
-
 pub returns : goal.returns
-returns c = counted_all is_text_character _ _ _ c.loop-n.invariant c.loop-n-test.false
+returns c =
+    count_from_yields_List c.take_while.result _ c.count.ensures.ran (YieldsList-from_take_while _ is_text_character (YieldsList-from_slice c.args.bytes.now cc) c.take_while.ensures.closure c.take_while.ensures.done (λ x b q k. search (rules, tests)))
+    ∙ ap length (taken is_text_character c.args.bytes.now)

@@ -1,7 +1,8 @@
-use mathlib.Core.Path.{◌∙◌}
+use Rattle.std.proofs.Common.{◌∙◌, ap}
 use borrow.Author.Rules.{rules}
-use Rattle.commandtable.proofs.Agrees.{agrees}
+use Rattle.refusals.specs.Numbers.{outcome_of}
+use Rattle.commandtable.proofs.Agrees.{meaning_agrees}
 use Rattle.commandtable.proofs.read_second.Goals as goal
 
 pub returns : goal.returns
-returns c = c.meaning_at.ensures ∙ agrees c.args.second (search rules)
+returns c = ap outcome_of c.ok_or.ensures.value ∙ rw c.into.ensures (meaning_agrees c.args.second (search rules))

@@ -1,9 +1,7 @@
-use Prim.Native.Nat.{◌-◌, ◌<◌}
 use mathlib.Core.Path.{sym, subst}
 use native.Mathlib.Omega.{arith}
 use Rattle.bodies.specs.Places.{IsPart}
 use Rattle.tally.specs.Small.{Small}
-use Rattle.counts.specs.Measures.{Measures, MeasureHolds}
 use Rattle.counts.proofs.Readings.{sum-start, running, event-step, call_step, call-deep, repeat-step, repeat-deep, phrase-step, phrase-deep, close_end, stop_end}
 use Rattle.counts.proofs.+measure.Goals as goal
 
@@ -47,29 +45,30 @@ pub measure-requires : goal.measure-requires
 measure-requires t c =
     (omega (arith, c.loop-at.invariant.later, c.loop-at-test.true), record { short = c.loop-at.invariant.short; inside = omega (arith, c.loop-at-test.true); low = omega (arith, c.loop-at.invariant.allowed); cells_ready = c.loop-at.invariant.cells_ready })
 
-pub returns-in-TooDeep : goal.returns-in-TooDeep
-returns-in-TooDeep t c =
-    let g : c.args.allowance - 1 < _ = subst (MeasureHolds _ _ _ _ _) c.in-TooDeep.is c.measure.ensures in
-    repeat-deep c.loop-at.invariant _ (subst (IsPart _ _) c.in-Repeat.is c.part_at.ensures).0 (omega (arith, c.if-allowance-eq0.false))
+pub returns-in_err-m-in-Repeat : goal.returns-in_err-m-in-Repeat
+returns-in_err-m-in-Repeat t c =
+    let g = c.in_err-m-in-Repeat.ensures in
+    rw c.from_residual.ensures
+    (repeat-deep c.loop-at.invariant _ (subst (IsPart _ _) c.in-Repeat.is c.part_at.ensures).0 (omega (arith, g, c.if-allowance-eq0.false)))
 
 pub with_repeat-sum-requires : goal.with_repeat-sum-requires
 with_repeat-sum-requires t c =
-    let g : Measures _ _ _ _ c.in-Body.m _ = subst (MeasureHolds _ _ _ _ _) c.in-Body.is c.measure.ensures in
+    let g = c.in_ok-m-in-Repeat.ensures in
     (running c.loop-at.invariant, g.small, (subst (IsPart _ _) c.in-Repeat.is c.part_at.ensures).1)
 
-pub overflow_add-at-in-Body : goal.overflow_add-at-in-Body
-overflow_add-at-in-Body t c =
-    let g : Measures _ _ _ _ c.in-Body.m _ = subst (MeasureHolds _ _ _ _ _) c.in-Body.is c.measure.ensures in
+pub overflow_add-at-in-Repeat-2 : goal.overflow_add-at-in-Repeat-2
+overflow_add-at-in-Repeat-2 t c =
+    let g = c.in_ok-m-in-Repeat.ensures in
     omega (arith, g.inside, c.loop-at.invariant.short)
 
-pub loop-at-smaller-in-Body : goal.loop-at-smaller-in-Body
-loop-at-smaller-in-Body t c =
-    let g : Measures _ _ _ _ c.in-Body.m _ = subst (MeasureHolds _ _ _ _ _) c.in-Body.is c.measure.ensures in
+pub loop-at-smaller-in-Repeat : goal.loop-at-smaller-in-Repeat
+loop-at-smaller-in-Repeat t c =
+    let g = c.in_ok-m-in-Repeat.ensures in
     omega (arith, g.inside, g.later, c.loop-at-test.true)
 
-pub loop-at-preserved-in-Body : goal.loop-at-preserved-in-Body
-loop-at-preserved-in-Body t c =
-    let g : Measures _ _ _ _ c.in-Body.m _ = subst (MeasureHolds _ _ _ _ _) c.in-Body.is c.measure.ensures in
+pub loop-at-preserved-in-Repeat : goal.loop-at-preserved-in-Repeat
+loop-at-preserved-in-Repeat t c =
+    let g = c.in_ok-m-in-Repeat.ensures in
     repeat-step c.loop-at.invariant _ _ _ _ (subst (IsPart _ _) c.in-Repeat.is c.part_at.ensures).0 (omega (arith, c.if-allowance-eq0.false)) g c.with_repeat-sum.ensures
 
 pub overflow_add-at-in-Phrase : goal.overflow_add-at-in-Phrase
@@ -80,13 +79,14 @@ pub measure-requires-in-Phrase : goal.measure-requires-in-Phrase
 measure-requires-in-Phrase t c =
     (omega (arith, c.loop-at.invariant.later, c.loop-at-test.true), record { short = c.loop-at.invariant.short; inside = omega (arith, c.loop-at-test.true); low = c.loop-at.invariant.allowed; cells_ready = c.loop-at.invariant.cells_ready })
 
-pub returns-in-TooDeep-measure : goal.returns-in-TooDeep-measure
-returns-in-TooDeep-measure t c =
-    phrase-deep c.loop-at.invariant _ (subst (IsPart _ _) c.in-Phrase.is c.part_at.ensures).0 (subst (MeasureHolds _ _ _ _ _) c.in-TooDeep-measure.is c.measure-in-Phrase.ensures)
+pub returns-in_err-m-in-Phrase : goal.returns-in_err-m-in-Phrase
+returns-in_err-m-in-Phrase t c =
+    rw c.from_residual-in_err-m-in-Phrase.ensures
+    (phrase-deep c.loop-at.invariant _ (subst (IsPart _ _) c.in-Phrase.is c.part_at.ensures).0 c.in_err-m-in-Phrase.ensures)
 
 pub packed_counts-requires : goal.packed_counts-requires
 packed_counts-requires t c =
-    let g : Measures _ _ _ _ c.in-Body-measure.m _ = subst (MeasureHolds _ _ _ _ _) c.in-Body-measure.is c.measure-in-Phrase.ensures in
+    let g = c.in_ok-m-in-Phrase.ensures in
     g.small
 
 pub overflow_cast-cells : goal.overflow_cast-cells
@@ -103,22 +103,22 @@ bounds-cells-k t c =
 
 pub with_phrase-sum-requires : goal.with_phrase-sum-requires
 with_phrase-sum-requires t c =
-    let g : Measures _ _ _ _ c.in-Body-measure.m _ = subst (MeasureHolds _ _ _ _ _) c.in-Body-measure.is c.measure-in-Phrase.ensures in
+    let g = c.in_ok-m-in-Phrase.ensures in
     (running c.loop-at.invariant, g.small)
 
-pub overflow_add-at-in-Body-measure : goal.overflow_add-at-in-Body-measure
-overflow_add-at-in-Body-measure t c =
-    let g : Measures _ _ _ _ c.in-Body-measure.m _ = subst (MeasureHolds _ _ _ _ _) c.in-Body-measure.is c.measure-in-Phrase.ensures in
+pub overflow_add-at-in-Phrase-2 : goal.overflow_add-at-in-Phrase-2
+overflow_add-at-in-Phrase-2 t c =
+    let g = c.in_ok-m-in-Phrase.ensures in
     omega (arith, g.inside, c.loop-at.invariant.short)
 
-pub loop-at-smaller-in-Body-measure : goal.loop-at-smaller-in-Body-measure
-loop-at-smaller-in-Body-measure t c =
-    let g : Measures _ _ _ _ c.in-Body-measure.m _ = subst (MeasureHolds _ _ _ _ _) c.in-Body-measure.is c.measure-in-Phrase.ensures in
+pub loop-at-smaller-in-Phrase : goal.loop-at-smaller-in-Phrase
+loop-at-smaller-in-Phrase t c =
+    let g = c.in_ok-m-in-Phrase.ensures in
     omega (arith, g.inside, g.later, c.loop-at-test.true)
 
-pub loop-at-preserved-in-Body-measure : goal.loop-at-preserved-in-Body-measure
-loop-at-preserved-in-Body-measure t c =
-    let g : Measures _ _ _ _ c.in-Body-measure.m _ = subst (MeasureHolds _ _ _ _ _) c.in-Body-measure.is c.measure-in-Phrase.ensures in
+pub loop-at-preserved-in-Phrase : goal.loop-at-preserved-in-Phrase
+loop-at-preserved-in-Phrase t c =
+    let g = c.in_ok-m-in-Phrase.ensures in
     phrase-step c.loop-at.invariant _ _ _ _ _ (subst (IsPart _ _) c.in-Phrase.is c.part_at.ensures).0 (subst (IsPart _ _) c.in-Phrase.is c.part_at.ensures).1 g c.packed_counts.ensures c.with_phrase-sum.ensures
 
 pub overflow_cast-k : goal.overflow_cast-k

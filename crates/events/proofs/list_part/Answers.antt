@@ -1,5 +1,4 @@
 -- `events::list_part` meets its contract: the walk's lists are the window asked for.
-use borrow.Author.Rules.{rules}
 use Rattle.events.proofs.Answers.{part_listable, part-listed}
 use Rattle.events.proofs.list_part.Goals as goal
 

@@ -1,15 +1,13 @@
-use native.Mathlib.Omega.{arith}
-use Rattle.fields.proofs.Cut.{counted_none, counted_mark, counted-more, counted_all}
+use Rattle.std.proofs.Common.{rules, ◌≡◌}
+use Rattle.std.specs.Prelude.{◌==◌, position}
+use Rattle.std.proofs.lemmas.Iterator.{YieldsList-from_slice}
+use Rattle.std.proofs.lemmas.Iterator.Search.{position_from_yields_List}
+use borrow.Author.Tests.{tests}
+use Rattle.fields.proofs.Cut.{before_position}
 use Rattle.fields.proofs.length_before.Goals as goal
 
-pub loop-n-init : goal.loop-n-init
-loop-n-init c = (omega arith, counted_none c.args.mark c.args.s.now)
-
-pub returns-then-s-n : goal.returns-then-s-n
-returns-then-s-n c = counted_mark _ _ _ c.loop-n-test.true c.if-s-n.true c.loop-n.invariant.1
-
-pub loop-n-preserved : goal.loop-n-preserved
-loop-n-preserved c = (omega arith, counted-more _ _ _ c.loop-n-test.true c.if-s-n.false c.loop-n.invariant.1)
-
 pub returns : goal.returns
-returns c = counted_all _ _ _ c.loop-n-test.false c.loop-n.invariant.0 c.loop-n.invariant.1
+returns c =
+    let place : c.position.result ≡ position (λ b. b == c.args.mark) c.args.s.now =
+    position_from_yields_List (λ b. b == c.args.mark) _ _ _ c.position.ensures.ran (YieldsList-from_slice c.args.s.now cc) (λ x b q k. search (rules, tests)) in
+    rw (c.unwrap_or.ensures, place) (before_position c.args.mark c.args.s.now)

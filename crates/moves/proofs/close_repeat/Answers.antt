@@ -1,11 +1,6 @@
--- `moves::close_repeat` meets its contract.
-use borrow.Author.Rules.{rules}
-use borrow.Author.Tests.{lt-ltb, le-ltb}
-use mathlib.Core.Path.{refl}
+-- `moves::close_repeat`: where one is taken off, there is room for one.
+use native.Mathlib.Omega.{arith}
 use Rattle.moves.proofs.close_repeat.Goals as goal
 
-pub returns-then-frame-gt1 : goal.returns-then-frame-gt1
-returns-then-frame-gt1 c = rw (lt-ltb _ _ c.if-frame-gt1.true, c.pair_after.ensures) (refl, refl)
-
-pub returns-else-frame-gt1 : goal.returns-else-frame-gt1
-returns-else-frame-gt1 c = rw (le-ltb _ _ c.if-frame-gt1.false) (refl, refl)
+pub push-requires : goal.push-requires
+push-requires c = omega (arith, c.in-Some-Repeat.ensures.len, c.requires.1)

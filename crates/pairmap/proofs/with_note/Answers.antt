@@ -1,6 +1,5 @@
 -- `pairmap::with_note` meets its contract, by the value that the note goes by.
 use native.Mathlib.Omega.{arith}
-use borrow.Author.Rules.{rules}
 use borrow.Author.Tests.{ne_eqb}
 use lib.Dec.{lit≤}
 use Rattle.pairmap.proofs.Joined.{joined-tempos, joined-utls, joined-utvs}

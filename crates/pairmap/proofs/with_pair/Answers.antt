@@ -7,13 +7,14 @@ use Rattle.pairmap.proofs.with_pair.Goals as goal
 pub with_note-requires : goal.with_note-requires
 with_note-requires c =
     let at = c.args in
-    (c.requires, rw c.length.ensures (note-low at.first at.second (search rules) c.if-first-eq0.true))
+    (c.requires, rw (c.from.ensures, c.length.ensures) (note-low at.first at.second (search rules) c.if-first-eq0.true))
 
 pub returns-then-first-eq0 : goal.returns-then-first-eq0
 returns-then-first-eq0 c =
     let at = c.args in
     rw (
       c.with_note.ensures,
+      c.from.ensures,
       c.length.ensures,
       single-note at.first at.second (search rules)
           c.if-first-eq0.true,

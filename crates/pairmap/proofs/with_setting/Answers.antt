@@ -1,5 +1,4 @@
 -- `pairmap::with_setting` meets its contract: the value that a command sets is among the values after it.
-use native.Mathlib.Numerals.{add-one}
 use borrow.Author.Rules.{rules}
 use borrow.Author.Tests.{ne_eqb}
 use Rattle.clock.specs.Lengths.{at_start}
@@ -12,11 +11,9 @@ returns-in-6 c =
     let at = c.args in
     let after = values_are at_start at.first at.second (search rules) (search rules) in
     rw (
-      c.left_at.ensures,
       c.values_after-after.ensures,
       c.at_start.ensures,
       after,
-      add-one,
       c.in-6.is,
     )
     (joined-left at.a _ _ _)
@@ -26,11 +23,9 @@ returns-in-22 c =
     let at = c.args in
     let after = values_are at_start at.first at.second (search rules) (search rules) in
     rw (
-      c.left_at-in-22.ensures,
       c.values_after-after.ensures,
       c.at_start.ensures,
       after,
-      add-one,
       c.in-22.is,
     )
     (joined-left at.a _ _ _)
@@ -40,11 +35,9 @@ returns-in-246 c =
     let at = c.args in
     let after = values_are at_start at.first at.second (search rules) (search rules) in
     rw (
-      c.left_at-in-246.ensures,
       c.values_after-after.ensures,
       c.at_start.ensures,
       after,
-      add-one,
       c.in-246.is,
     )
     (joined-left at.a _ _ _)

@@ -1,7 +1,7 @@
--- `begins` meets its contract: each byte is that of the file. Assumes nothing.
-use Rattle.sap.specs.FirstLine.{first_line}
+-- `begins` meets its contract. Assumes nothing.
+use mathlib.Core.Path.{◌∙◌}
+use Rattle.sap.proofs.First.{starts_first}
 use Rattle.sap.proofs.begins.Goals as goal
 
 pub returns : goal.returns
-unfolding first_line
-returns c = rw (c.byte_at-lf.ensures, c.byte_at-cr.ensures, c.byte_at-p.ensures, c.byte_at-a.ensures, c.byte_at-s.ensures)
+returns c = c.starts_with.ensures.value ∙ starts_first c.args.file.now

@@ -5,8 +5,8 @@ use lib.ListN.{length}
 use Rattle.sapblocks.proofs.Walking.{Walking}
 use Rattle.sapblocks.proofs.walk.Given as goal
 
-abbrev pub invariant-loop-place : goal.invariant-loop-place
-invariant-loop-place l = (l.count ≤ l.place) × Walking l.file l.at l.number l.place l.must l.count l.wanted
+abbrev pub invariant-loop-found : goal.invariant-loop-found
+invariant-loop-found l = (l.count ≤ l.place) × Walking l.file l.at l.number l.place l.count l.wanted
 
-abbrev pub decreases-loop-place : goal.decreases-loop-place
-decreases-loop-place l = length l.file - l.place
+abbrev pub decreases-loop-found : goal.decreases-loop-found
+decreases-loop-found l = length l.file - l.place

@@ -1,26 +1,12 @@
--- `player_of` meets its contract: each address is what its tag states. Assumes nothing.
+-- `player_of` asks no more of an address than its tag allows. Assumes nothing.
 use Rattle.saptags.specs.declared.Tag.TheVariants as tag
 use Rattle.sapheader.proofs.player_of.Goals as goal
 
-pub address_for-init-requires : goal.address_for-init-requires
-address_for-init-requires c = c.requires tag.Init
+pub number_for-requires : goal.number_for-requires
+number_for-requires c = rw c.stated-2.ensures (c.requires tag.Init)
 
-pub address_for-music-requires : goal.address_for-music-requires
-address_for-music-requires c = c.requires tag.Music
+pub number_for-requires-2 : goal.number_for-requires-2
+number_for-requires-2 c = rw c.stated-3.ensures (c.requires tag.Music)
 
-pub address_for-player-requires : goal.address_for-player-requires
-address_for-player-requires c = c.requires tag.Player
-
-pub routine_for-routine-requires : goal.routine_for-routine-requires
-routine_for-routine-requires c = c.requires tag.Player
-
-pub returns : goal.returns
-returns c =
-    rw (
-      c.player_with.ensures,
-      c.routine_for-routine.ensures,
-      c.address_for-player.ensures,
-      c.address_for-music.ensures,
-      c.address_for-init.ensures,
-      c.value_or-letter.ensures,
-    )
+pub number_for-player-requires : goal.number_for-player-requires
+number_for-player-requires c = rw c.stated-4.ensures (c.requires tag.Player)

@@ -1,14 +1,14 @@
--- What is found at a place ends after it.
+-- What is found at a place begins in the file and ends after it.
 use Rattle.std.proofs.Common.{sym, ◌∙◌, arith}
-use Rattle.sapblocks.specs.Laws.{found-known}
+use Rattle.sapblocks.specs.Laws.{found-known, found-there}
 use Rattle.sapinfo.proofs.show_blocks.Goals as goal
 
-pub loop-at-smaller-in-Marker : goal.loop-at-smaller-in-Marker
-loop-at-smaller-in-Marker g c =
-    let known = found-known c.args.file.now c.loop-at.at _ (sym c.in-Marker.is ∙ c.block_at.ensures) in
-    omega (arith, c.loop-at-test.true, known)
+pub loop-found-smaller-in-Marker : goal.loop-found-smaller-in-Marker
+loop-found-smaller-in-Marker g c =
+    let e = rw c.in-Marker.is at (sym c.in-Some.is ∙ c.block_at.ensures) in
+    omega (arith, found-there c.args.file.now c.loop-found.at _ e, found-known c.args.file.now c.loop-found.at _ e)
 
-pub loop-at-smaller : goal.loop-at-smaller
-loop-at-smaller g c =
-    let known = found-known c.args.file.now c.loop-at.at _ (sym c.in-Whole.is ∙ c.block_at.ensures) in
-    omega (arith, c.loop-at-test.true, known.2)
+pub loop-found-smaller : goal.loop-found-smaller
+loop-found-smaller g c =
+    let e = rw c.in-Whole.is at (sym c.in-Some.is ∙ c.block_at.ensures) in
+    omega (arith, found-there c.args.file.now c.loop-found.at _ e, (found-known c.args.file.now c.loop-found.at _ e).2)

@@ -2,5 +2,5 @@
 use Rattle.std.proofs.Common.{length, ◌-◌}
 use Rattle.sapinfo.proofs.show_blocks.Given as goal
 
-abbrev pub decreases-loop-at : goal.decreases-loop-at
-decreases-loop-at g l = length l.file - l.at
+abbrev pub decreases-loop-found : goal.decreases-loop-found
+decreases-loop-found g l = length l.file - l.at

@@ -1,11 +1,12 @@
 -- `block` meets its contract: each way is a law of `Outcomes`. Assumes nothing.
-use mathlib.Core.Path.{sym, ap, ◌∙◌}
-use Rattle.sap.specs.Answers.{outcome_of_tested}
+use Rattle.std.proofs.lemmas.Result.{err_from_is_err_and}
 use Rattle.sapparts.proofs.Outcomes.{block_refused, block-given}
 use Rattle.sapparts.proofs.block.Goals as goal
 
-pub returns-in-Refused : goal.returns-in-Refused
-returns-in-Refused c = block_refused c.args.file.now 0 _ _ _ (ap outcome_of_tested (sym c.in-Refused.is) ∙ c.test.ensures)
+pub returns-in_err-tested : goal.returns-in_err-tested
+returns-in_err-tested c =
+    let p = err_from_is_err_and c.from_residual.result c.from_residual.ensures.1 in
+    rw (p.1, p.2) (block_refused c.args.file.now 0 _ _ _ c.in_err-tested.ensures)
 
-pub returns-in-Passed : goal.returns-in-Passed
-returns-in-Passed c = c.block_of.ensures ∙ block-given c.args.file.now 0 _ _ _ _ (ap outcome_of_tested (sym c.in-Passed.is) ∙ c.test.ensures)
+pub returns : goal.returns
+returns c = block-given c.args.file.now 0 _ _ _ _ c.in_ok-tested.ensures

@@ -5,8 +5,8 @@ use lib.ListN.{length}
 use Rattle.sapput.proofs.Progress.{Putting}
 use Rattle.sapput.proofs.put_blocks.Given as goal
 
-abbrev pub invariant-loop-place : goal.invariant-loop-place
-invariant-loop-place l = Putting l.file l.at l.initial.memory l.place l.memory
+abbrev pub invariant-loop-found : goal.invariant-loop-found
+invariant-loop-found l = Putting l.file l.at l.initial.memory l.place l.memory
 
-abbrev pub decreases-loop-place : goal.decreases-loop-place
-decreases-loop-place l = length l.file - l.place
+abbrev pub decreases-loop-found : goal.decreases-loop-found
+decreases-loop-found l = length l.file - l.place

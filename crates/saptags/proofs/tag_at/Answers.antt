@@ -2,62 +2,43 @@
 use mathlib.Core.Path.{refl}
 use native.Mathlib.Omega.{arith}
 use borrow.Author.Tests.{ne_eqb}
-use Rattle.saptags.proofs.Letters.{by_letter}
+use Rattle.saptags.proofs.Letters.{by_letter, by_two}
+use Rattle.saptags.specs.declared.Tag.{Tag}
+use Rattle.saptags.specs.Tags.{name_of}
 use Rattle.saptags.proofs.tag_at.Goals as goal
 
 pub returns-in-65 : goal.returns-in-65
-returns-in-65 c =
-    let a = c.args in
-    by_letter a.file.now a.at 0x41 c.byte_at.ensures c.in-65.is c.one_of.ensures
+returns-in-65 c = by_letter c.args.bytes.now 0x41 c.byte_at.ensures c.in-65.is c.named.ensures
 
 pub returns-in-78 : goal.returns-in-78
-returns-in-78 c =
-    let a = c.args in
-    by_letter a.file.now a.at 0x4E c.byte_at.ensures c.in-78.is c.two_of.ensures
+returns-in-78 c = by_letter c.args.bytes.now 0x4E c.byte_at.ensures c.in-78.is (by_two (name_of Tag.Name) Tag.Name (name_of Tag.Ntsc) Tag.Ntsc c.args.bytes.now c.named-in-78.ensures c.named-in-78-2.ensures c.or.ensures)
 
 pub returns-in-68 : goal.returns-in-68
-returns-in-68 c =
-    let a = c.args in
-    by_letter a.file.now a.at 0x44 c.byte_at.ensures c.in-68.is c.two_of-in-68.ensures
+returns-in-68 c = by_letter c.args.bytes.now 0x44 c.byte_at.ensures c.in-68.is (by_two (name_of Tag.Date) Tag.Date (name_of Tag.DefSong) Tag.DefSong c.args.bytes.now c.named-in-68.ensures c.named-in-68-2.ensures c.or-in-68.ensures)
 
 pub returns-in-83 : goal.returns-in-83
-returns-in-83 c =
-    let a = c.args in
-    by_letter a.file.now a.at 0x53 c.byte_at.ensures c.in-83.is c.two_of-in-83.ensures
+returns-in-83 c = by_letter c.args.bytes.now 0x53 c.byte_at.ensures c.in-83.is (by_two (name_of Tag.Songs) Tag.Songs (name_of Tag.Stereo) Tag.Stereo c.args.bytes.now c.named-in-83.ensures c.named-in-83-2.ensures c.or-in-83.ensures)
 
 pub returns-in-84 : goal.returns-in-84
-returns-in-84 c =
-    let a = c.args in
-    by_letter a.file.now a.at 0x54 c.byte_at.ensures c.in-84.is c.two_of-in-84.ensures
+returns-in-84 c = by_letter c.args.bytes.now 0x54 c.byte_at.ensures c.in-84.is (by_two (name_of Tag.Type) Tag.Type (name_of Tag.Time) Tag.Time c.args.bytes.now c.named-in-84.ensures c.named-in-84-2.ensures c.or-in-84.ensures)
 
 pub returns-in-70 : goal.returns-in-70
-returns-in-70 c =
-    let a = c.args in
-    by_letter a.file.now a.at 0x46 c.byte_at.ensures c.in-70.is c.one_of-in-70.ensures
+returns-in-70 c = by_letter c.args.bytes.now 0x46 c.byte_at.ensures c.in-70.is c.named-in-70.ensures
 
 pub returns-in-73 : goal.returns-in-73
-returns-in-73 c =
-    let a = c.args in
-    by_letter a.file.now a.at 0x49 c.byte_at.ensures c.in-73.is c.one_of-in-73.ensures
+returns-in-73 c = by_letter c.args.bytes.now 0x49 c.byte_at.ensures c.in-73.is c.named-in-73.ensures
 
 pub returns-in-77 : goal.returns-in-77
-returns-in-77 c =
-    let a = c.args in
-    by_letter a.file.now a.at 0x4D c.byte_at.ensures c.in-77.is c.one_of-in-77.ensures
+returns-in-77 c = by_letter c.args.bytes.now 0x4D c.byte_at.ensures c.in-77.is c.named-in-77.ensures
 
 pub returns-in-80 : goal.returns-in-80
-returns-in-80 c =
-    let a = c.args in
-    by_letter a.file.now a.at 0x50 c.byte_at.ensures c.in-80.is c.one_of-in-80.ensures
+returns-in-80 c = by_letter c.args.bytes.now 0x50 c.byte_at.ensures c.in-80.is c.named-in-80.ensures
 
 pub returns-in-67 : goal.returns-in-67
-returns-in-67 c =
-    let a = c.args in
-    by_letter a.file.now a.at 0x43 c.byte_at.ensures c.in-67.is c.one_of-in-67.ensures
+returns-in-67 c = by_letter c.args.bytes.now 0x43 c.byte_at.ensures c.in-67.is c.named-in-67.ensures
 
 pub returns-in_default : goal.returns-in_default
 returns-in_default c =
-    let a = c.args in
     let b = c.byte_at.result in
-    by_letter a.file.now a.at b c.byte_at.ensures refl
+    by_letter c.args.bytes.now b c.byte_at.ensures refl
     (rw (ne_eqb b 0x41 (omega arith), ne_eqb b 0x4E (omega arith), ne_eqb b 0x44 (omega arith), ne_eqb b 0x53 (omega arith), ne_eqb b 0x54 (omega arith), ne_eqb b 0x46 (omega arith), ne_eqb b 0x49 (omega arith), ne_eqb b 0x4D (omega arith), ne_eqb b 0x50 (omega arith), ne_eqb b 0x43 (omega arith)))

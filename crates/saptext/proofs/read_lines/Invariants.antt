@@ -6,7 +6,7 @@ use Rattle.saptext.proofs.Loop.{Ongoing}
 use Rattle.saptext.proofs.read_lines.Given as goal
 
 abbrev pub invariant-loop-at : goal.invariant-loop-at
-invariant-loop-at l = Ongoing l.file l.song l.places l.values l.times l.at
+invariant-loop-at l = Ongoing l.file l.song l.cells l.times l.at
 
 abbrev pub decreases-loop-at : goal.decreases-loop-at
 decreases-loop-at l = length l.file - l.at

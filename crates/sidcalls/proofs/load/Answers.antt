@@ -1,5 +1,5 @@
-use mathlib.Core.Path.{sym, ap, ◌∙◌}
-use Rattle.sid.specs.Answers.{outcome_of_tested}
+-- `load` meets its contract: `put_payload` loads, and its outcome is that of loading. Assumes nothing.
+use mathlib.Core.Path.{ap}
 use Rattle.sidload.specs.Laws.{load_headed}
 use Rattle.answers.specs.Answers.{packed, no_value}
 use Rattle.answers.specs.Filling.{refusal_fits}
@@ -7,19 +7,18 @@ use Rattle.sidcalls.proofs.Places.{load_low}
 use Rattle.sidcalls.proofs.load.Goals as goal
 
 pub refused-requires : goal.refused-requires
-refused-requires c =
-    refusal_fits (load_headed _ _ _ (ap outcome_of_tested (sym c.in-Refused.is) ∙ c.put_payload.ensures.answer)) (load_low _ _)
+refused-requires c = refusal_fits (load_headed _ _ _ c.in-Err.ensures.answer) (load_low _ _)
 
-pub returns-in-Refused : goal.returns-in-Refused
-returns-in-Refused c =
+pub returns-in-Err : goal.returns-in-Err
+returns-in-Err c =
     record {
-      answer = c.refused.ensures ∙ ap (packed no_value) (load_headed _ _ _ (ap outcome_of_tested (sym c.in-Refused.is) ∙ c.put_payload.ensures.answer));
-      cells = c.put_payload.ensures.cells;
+      answer = rw (c.refused.ensures, c.number.ensures) (ap (packed no_value) (load_headed _ _ _ c.in-Err.ensures.answer));
+      cells = c.in-Err.ensures.cells;
     }
 
-pub returns-in-Passed : goal.returns-in-Passed
-returns-in-Passed c =
+pub returns-in-Ok : goal.returns-in-Ok
+returns-in-Ok c =
     record {
-      answer = ap (packed no_value) (load_headed _ _ _ (ap outcome_of_tested (sym c.in-Passed.is) ∙ c.put_payload.ensures.answer));
-      cells = c.put_payload.ensures.cells;
+      answer = ap (packed no_value) (load_headed _ _ _ c.in-Ok.ensures.answer);
+      cells = c.in-Ok.ensures.cells;
     }

@@ -12,10 +12,10 @@ returns-then-start c = rw (c.if-start.true, or-false _)
 pub returns : goal.returns
 unfolding bad_pages
 returns c =
-    let a = c.args in
+    let x = c.args.parts.fields in
     rw (
       c.if-start.false,
-      any-taken a.x.page a.x.pages (touched a.p) (is_rsid a.x),
+      any-taken x.page x.pages (touched c.args.parts.payload) (is_rsid x),
       c.meets-high.ensures,
       c.meets-rom.ensures,
       c.meets-low.ensures,

@@ -1,12 +1,8 @@
-use borrow.Author.Rules.{rules}
 use borrow.Author.Tests.{ne_eqb}
-use Prim.Native.Nat.{◌+◌, ◌-◌, ◌/◌, ◌≤◌, ◌<◌}
-use mathlib.Core.Path.{◌≡◌, refl, sym, ◌∙◌}
+use mathlib.Core.Path.{refl, sym, ◌∙◌}
 use native.Mathlib.Omega.{arith}
-use lib.ListN.{length, drop}
-use Rattle.bodies.specs.Voice.{pairs}
 use Rattle.bodies.proofs.Stored.{plain-pair-event}
-use Rattle.structure.specs.Findings.{first_at, pairs_tests, pairs_finding}
+use Rattle.structure.specs.Findings.{pairs_finding}
 use Rattle.structure.proofs.Passes.{pair_failed, pair-passed, plain-passed, pair_end}
 use Rattle.structure.proofs.pairs_finding.Goals as goal
 
@@ -16,24 +12,21 @@ loop-i-init c = (omega arith, refl)
 
 pub loop-i-preserved-then-plain_at : goal.loop-i-preserved-then-plain_at
 loop-i-preserved-then-plain_at c =
-    let taken = c.loop-i-test.true in
-    let i = c.loop-i.i in
-    let n = length c.args.voice.now / 2 in
-    let more : i + 1 < n = c.if-i-n.true in (
+    let taken = c.loop-i-test.true in (
       omega (arith, taken),
-      sym (plain-passed _ _ taken (plain-pair-event _ _ (sym c.plain_at.ensures ∙ c.if-plain_at.true)) (ne_eqb (i + 1) n (λ e. omega arith))) ∙ c.loop-i.invariant.1,
+      sym (plain-passed _ _ taken (plain-pair-event _ _ (sym c.plain_at.ensures ∙ c.if-plain_at.true)) (ne_eqb _ _ c.if-not-last.true)) ∙ c.loop-i.invariant.1,
     )
 
-pub returns-in-Failed : goal.returns-in-Failed
-returns-in-Failed c =
-    sym (pair_failed _ _ c.loop-i-test.true _ (rw (sym c.kind_at-kind.ensures.0) (sym c.test_pair.ensures ∙ c.in-Failed.is)))
+pub returns-in-Err : goal.returns-in-Err
+returns-in-Err c =
+    sym (pair_failed _ _ c.loop-i-test.true _ (rw (sym c.kind_at-kind.ensures.0) (sym c.test_pair.ensures ∙ c.in-Err.is)))
     ∙ c.loop-i.invariant.1
 
 pub loop-i-preserved : goal.loop-i-preserved
 loop-i-preserved c =
     let taken = c.loop-i-test.true in (
       omega (arith, taken),
-      sym (pair-passed _ _ taken (rw (sym c.kind_at-kind.ensures.0) (sym c.test_pair.ensures ∙ c.in-Passed.is)))
+      sym (pair-passed _ _ taken (rw (sym c.kind_at-kind.ensures.0) (sym c.test_pair.ensures ∙ c.in_default.is)))
           ∙ c.loop-i.invariant.1,
     )
 

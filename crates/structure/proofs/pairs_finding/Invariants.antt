@@ -1,14 +1,9 @@
 -- `structure::pairs_finding` meets its contract.
-use borrow.Author.Rules.{rules}
-use borrow.Author.Tests.{ne_eqb}
-use Prim.Native.Nat.{◌+◌, ◌-◌, ◌/◌, ◌≤◌, ◌<◌}
-use mathlib.Core.Path.{◌≡◌, refl, sym, ◌∙◌}
-use native.Mathlib.Omega.{arith}
+use Prim.Native.Nat.{◌-◌, ◌/◌, ◌≤◌}
+use mathlib.Core.Path.{◌≡◌}
 use lib.ListN.{length, drop}
 use Rattle.bodies.specs.Voice.{pairs}
-use Rattle.bodies.proofs.Stored.{plain-pair-event}
 use Rattle.structure.specs.Findings.{first_at, pairs_tests, pairs_finding}
-use Rattle.structure.proofs.Passes.{pair_failed, pair-passed, plain-passed, pair_end}
 use Rattle.structure.proofs.pairs_finding.Given as goal
 
 abbrev pub invariant-loop-i : goal.invariant-loop-i

@@ -1,11 +1,9 @@
-use borrow.Author.Rules.{rules}
-use Prim.Native.Nat.{ℕ, ◌-◌, ◌/◌, ◌<◌, ◌≤◌}
+use Prim.Native.Nat.{ℕ, ◌<◌}
 use mathlib.Core.Path.{refl, sym, subst, ◌∙◌}
 use native.Mathlib.Omega.{arith}
-use lib.ListN.{length}
 use Rattle.bodies.proofs.Stored.{plain-pair-event}
 use Rattle.structure.specs.Steps.{heds, openers_of}
-use Rattle.structure.proofs.Passes.{Seen, seen_start, none_held, number-few, step-off, step-on, step-closes, step-few, plain-on, nest_end}
+use Rattle.structure.proofs.Passes.{seen_start, none_held, number-few, step-off, step-on, step-few, plain-on, nest_end}
 use Rattle.structure.proofs.structure_finding.Goals as goal
 
 pub loop-i-init : goal.loop-i-init
@@ -18,21 +16,17 @@ bounds-closed-number_of c = subst (λ (k : ℕ). k < 24) (sym c.number_of.ensure
 pub pass-requires : goal.pass-requires
 pass-requires c = let inv = c.loop-i.invariant in (omega (arith, inv.1.few.inside, inv.0, c.requires), inv.1.few.phrase, c.kind_at-kind.ensures.1)
 
-pub returns-in-Off : goal.returns-in-Off
-returns-in-Off c =
-    (step-off _ _ _ _ c.loop-i.invariant.1 c.loop-i-test.true c.kind_at-kind.ensures.0 c.number_of.ensures _ c.in-Off.is c.pass.ensures)
+pub returns-in-Err : goal.returns-in-Err
+returns-in-Err c =
+    (step-off _ _ _ _ c.loop-i.invariant.1 c.loop-i-test.true c.kind_at-kind.ensures.0 c.number_of.ensures _ c.in-Err.is c.pass.ensures)
 
-pub loop-i-preserved-in-On : goal.loop-i-preserved-in-On
-loop-i-preserved-in-On c =
-    (omega (arith, c.loop-i-test.true), (step-on _ _ _ _ c.loop-i.invariant.1 c.loop-i-test.true c.kind_at-kind.ensures.0 c.number_of.ensures _ c.in-On.is c.pass.ensures))
-
-pub bounds-closed-k : goal.bounds-closed-k
-bounds-closed-k c =
-    (step-few _ _ _ _ c.loop-i.invariant.1 c.loop-i-test.true c.kind_at-kind.ensures.0 c.number_of.ensures _ _ c.in-Closes.is c.pass.ensures)
+pub close-requires : goal.close-requires
+close-requires c =
+    (step-few _ _ _ _ c.loop-i.invariant.1 c.loop-i-test.true c.kind_at-kind.ensures.0 c.number_of.ensures _ c.in-Ok.is c.pass.ensures)
 
 pub loop-i-preserved : goal.loop-i-preserved
 loop-i-preserved c =
-    (omega (arith, c.loop-i-test.true), (step-closes _ _ _ _ c.loop-i.invariant.1 c.loop-i-test.true c.kind_at-kind.ensures.0 c.number_of.ensures _ _ c.in-Closes.is c.pass.ensures))
+    (omega (arith, c.loop-i-test.true), rw c.close.ensures (step-on _ _ _ _ c.loop-i.invariant.1 c.loop-i-test.true c.kind_at-kind.ensures.0 c.number_of.ensures _ c.in-Ok.is c.pass.ensures))
 
 pub returns : goal.returns
 returns c = sym (nest_end _ _ _ _ c.loop-i.invariant.1 (omega (arith, c.loop-i-test.false)))

@@ -5,4 +5,4 @@ use Rattle.tally.proofs.with.Goals as goal
 
 pub returns : goal.returns
 unfolding join
-returns c = same_counts _ _ c.capped.ensures c.capped-2.ensures c.greater.ensures
+returns c = same_counts _ _ c.capped.ensures c.capped-2.ensures c.max.ensures

@@ -1,13 +1,12 @@
 -- `voicelength::end_of` meets its contract: the map of the voice, at the values that it starts with.
-use borrow.Author.Rules.{rules}
 use mathlib.Core.Path.{◌∙◌}
 use native.Mathlib.Omega.{arith}
 use lib.ListN.{drop, length-take, length-drop}
 use Rattle.voicelength.proofs.Ends.{end_is}
 use Rattle.voicelength.proofs.end_of.Goals as goal
 
-pub map_of-map-requires : goal.map_of-map-requires
-map_of-map-requires c =
+pub map_of-requires : goal.map_of-requires
+map_of-requires c =
     let v = c.args.v in
     let f = c.args.file.now in
     rw c.part.ensures
@@ -19,5 +18,5 @@ map_of-map-requires c =
 pub returns : goal.returns
 returns c =
     c.length.ensures
-    ∙ rw (c.map_of-map.ensures.0, c.at_start.ensures, c.part.ensures)
+    ∙ rw (c.map_of.ensures.0, c.at_start.ensures, c.part.ensures)
     (end_is c.args.file.now c.args.v (λ k. omega (arith, c.shared_slice_known-1.given k)) c.requires)

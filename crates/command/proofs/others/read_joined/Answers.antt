@@ -17,4 +17,4 @@ pub returns-then-first-eq3 : goal.returns-then-first-eq3
 returns-then-first-eq3 c = rw (joined_as c.args.first c.args.second (search rules), ne_eqb _ _ c.if-first-eq30.false, ne_eqb _ _ c.if-first-eq62.false, ne_eqb _ _ c.if-first-eq10.false, c.if-first-eq3.true)
 
 pub returns : goal.returns
-returns c = rw (joined_as c.args.first c.args.second (search rules), ne_eqb _ _ c.if-first-eq30.false, ne_eqb _ _ c.if-first-eq62.false, ne_eqb _ _ c.if-first-eq10.false, ne_eqb _ _ c.if-first-eq3.false, c.unplaced.ensures)
+returns c = rw (joined_as c.args.first c.args.second (search rules), ne_eqb _ _ c.if-first-eq30.false, ne_eqb _ _ c.if-first-eq62.false, ne_eqb _ _ c.if-first-eq10.false, ne_eqb _ _ c.if-first-eq3.false, c.into.ensures)

@@ -11,21 +11,6 @@ use Rattle.command.proofs.others.read_other.Goals as goal
 pub returns-then-first-eq2 : goal.returns-then-first-eq2
 returns-then-first-eq2 c = rw (pulse_as c.args.first c.args.second (row_found single_rows c.args.first c.args.second (joined_outcome c.args.first c.args.second)) (search rules), c.if-first-eq2.true)
 
-pub returns-in-6 : goal.returns-in-6
-returns-in-6 c = rw (c.in-6.is, zero-add c.args.second, c.tempo_of.ensures)
-
-pub returns-in-22 : goal.returns-in-22
-returns-in-22 c = rw (c.in-22.is, zero-add c.args.second)
-
-pub returns-in-38 : goal.returns-in-38
-returns-in-38 c = rw (c.in-38.is, zero-add c.args.second)
-
-pub returns-in-54 : goal.returns-in-54
-returns-in-54 c = rw (c.in-54.is, zero-add c.args.second)
-
-pub returns-in-70 : goal.returns-in-70
-returns-in-70 c = rw (c.in-70.is, zero-add c.args.second)
-
 pub returns-in-86 : goal.returns-in-86
 returns-in-86 c = rw (c.in-86.is, zero-add c.args.second, kept c.signed_byte.result c.signed_byte.type_inv, c.signed_byte.ensures)
 
@@ -35,41 +20,14 @@ returns-in-102 c = rw (c.in-102.is, zero-add c.args.second, kept c.signed_byte-i
 pub returns-in-110 : goal.returns-in-110
 returns-in-110 c = rw (c.in-110.is, zero-add c.args.second, c.read_sca.ensures)
 
-pub returns-in-118 : goal.returns-in-118
-returns-in-118 c = rw (c.in-118.is, zero-add c.args.second, c.up_to_127.ensures)
-
-pub returns-in-134 : goal.returns-in-134
-returns-in-134 c = rw (c.in-134.is, zero-add c.args.second)
-
 pub returns-in-150 : goal.returns-in-150
 returns-in-150 c = rw (c.in-150.is, zero-add c.args.second, kept c.signed_byte-in-150.result c.signed_byte-in-150.type_inv, c.signed_byte-in-150.ensures)
 
 pub returns-in-166 : goal.returns-in-166
 returns-in-166 c = rw (c.in-166.is, zero-add c.args.second, c.read_tps.ensures)
 
-pub returns-in-182 : goal.returns-in-182
-returns-in-182 c = rw (c.in-182.is, zero-add c.args.second)
-
-pub returns-in-198 : goal.returns-in-198
-returns-in-198 c = rw (c.in-198.is, zero-add c.args.second, c.up_to_127-in-198.ensures)
-
-pub returns-in-214 : goal.returns-in-214
-returns-in-214 c = rw (c.in-214.is, zero-add c.args.second, c.up_to_127-in-214.ensures)
-
-pub returns-in-230 : goal.returns-in-230
-returns-in-230 c = rw (c.in-230.is, zero-add c.args.second)
-
-pub returns-in-246 : goal.returns-in-246
-returns-in-246 c = rw (c.in-246.is, zero-add c.args.second)
-
-pub returns-in-14 : goal.returns-in-14
-returns-in-14 c = rw (c.in-14.is, zero-add c.args.second)
-
 pub returns-in-46 : goal.returns-in-46
 returns-in-46 c = rw (c.in-46.is, zero-add c.args.second, c.read_rtp.ensures)
-
-pub returns-in-78 : goal.returns-in-78
-returns-in-78 c = rw (c.in-78.is, zero-add c.args.second)
 
 pub returns-in_default : goal.returns-in_default
 returns-in_default c =

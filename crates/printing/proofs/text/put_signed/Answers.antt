@@ -1,14 +1,14 @@
--- What is put of a number's parts is its text.
-use Rattle.signed.specs.Laws.{kept}
-use Rattle.printing.proofs.Signed.{signed_below, signed_above}
+-- std's text of a signed number is the table's.
+use Rattle.std.proofs.Common.{◌∙◌, ap}
+use Rattle.printing.specs.Placing.{text_placed, after_text}
+use Rattle.printing.proofs.Signed.{signed_std}
 use Rattle.printing.proofs.text.put_signed.Goals as goal
 
-pub returns-then-parts : goal.returns-then-parts
-returns-then-parts c =
-    let e = rw (kept c.args.v c.ranges.v.sfits) at c.parts_of-parts.ensures in
-    rw (← signed_below c.args.v c.parts_of-parts.result e c.if-parts.true) c.put_after.ensures
-
-pub returns-else-parts : goal.returns-else-parts
-returns-else-parts c =
-    let e = rw (kept c.args.v c.ranges.v.sfits) at c.parts_of-parts.ensures in
-    rw (← signed_above c.args.v c.parts_of-parts.result e c.if-parts.false) c.put_number.ensures
+pub returns : goal.returns
+returns c =
+    let a = c.args in
+    let text = c.as_bytes.ensures.value ∙ c.format.ensures.text ∙ signed_std a.v c.ranges.v.sfits in
+    record {
+      value = c.put.ensures.value ∙ ap (after_text a.out.now a.at) text;
+      out_after = c.put.ensures.out_after ∙ ap (text_placed a.out.now a.at) text;
+    }

@@ -1,5 +1,4 @@
 -- `structure::nesting::closes_repeat` meets its contract.
-use borrow.Author.Rules.{rules}
 use Rattle.structure.proofs.Openers.{tal-off, tal-on}
 use Rattle.structure.proofs.nesting.closes_repeat.Goals as goal
 
@@ -7,4 +6,4 @@ pub returns-then-o-eq0 : goal.returns-then-o-eq0
 returns-then-o-eq0 c = tal-off c.args.o c.if-o-eq0.true
 
 pub returns : goal.returns
-returns c = tal-on c.args.o c.if-o-eq0.false
+returns c = rw c.on.ensures (tal-on c.args.o c.if-o-eq0.false)

@@ -1,5 +1,4 @@
 -- `structure::single::test_pair` meets its contract.
-use borrow.Author.Rules.{rules}
 use mathlib.Core.Path.{subst}
 use Rattle.kind.specs.Kinds.{Numbered}
 use Rattle.structure.proofs.Singles.{bad-either}

@@ -2,11 +2,10 @@
 use Prim.Native.Nat.{ℕ, ◌+◌, ◌*◌, ◌/◌}
 use mathlib.Core.Path.{◌≡◌, refl}
 use mathlib.Core.List.{List}
-use borrow.Author.Rules.{rules}
 use Rattle.pair.specs.Pairs.{meaning_of}
 use Rattle.clock.specs.declared.Values.{Values}
 use Rattle.clock.specs.Lengths.{length_of, values_after}
-use Rattle.bodies.specs.declared.Bytes.{Bytes}
+use Rattle.meaning.specs.declared.Bytes.{Bytes}
 use Rattle.bodies.specs.Voice.{bytes_at, pair_at}
 use Rattle.walk.specs.declared.turn.Clock.{Clock}
 use Rattle.walk.specs.declared.turn.Turn.{Turn}

@@ -1,8 +1,0 @@
-use borrow.Author.Rules.{rules}
-use Rattle.codes.proofs.commands.switch.Goals as goal
-
-pub returns-then-set : goal.returns-then-set
-returns-then-set c = rw c.if-set.true
-
-pub returns-else-set : goal.returns-else-set
-returns-else-set c = rw c.if-set.false

@@ -1,5 +1,0 @@
-use borrow.Author.Rules.{rules}
-use Rattle.decoding.proofs.none.Goals as goal
-
-pub returns : goal.returns
-returns c = rw c.unplaced.ensures

@@ -1,9 +1,0 @@
--- `text_for` meets its contract: by whether the tag is there. Assumes nothing.
-use borrow.Author.Tests.{eq-eqb, ne_eqb}
-use Rattle.sapheader.proofs.text_for.Goals as goal
-
-pub returns-then-place-eq0 : goal.returns-then-place-eq0
-returns-then-place-eq0 c = rw (eq-eqb _ _ c.if-place-eq0.true)
-
-pub returns-else-place-eq0 : goal.returns-else-place-eq0
-returns-else-place-eq0 c = rw (ne_eqb _ _ c.if-place-eq0.false)

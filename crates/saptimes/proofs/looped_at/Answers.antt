@@ -1,9 +1,0 @@
--- `looped_at` meets its contract: by whether the word stands there. Assumes nothing.
-use mathlib.Core.Path.{sym, ◌∙◌}
-use Rattle.saptimes.proofs.looped_at.Goals as goal
-
-pub returns-then-stands_at : goal.returns-then-stands_at
-returns-then-stands_at c = rw (sym c.stands_at.ensures ∙ c.if-stands_at.true)
-
-pub returns-else-stands_at : goal.returns-else-stands_at
-returns-else-stands_at c = rw (sym c.stands_at.ensures ∙ c.if-stands_at.false)

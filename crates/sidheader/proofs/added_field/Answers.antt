@@ -1,9 +1,0 @@
--- `added_field` meets its contract. Assumes nothing.
-use borrow.Author.Tests.{eq-eqb, ne_eqb}
-use Rattle.sidheader.proofs.added_field.Goals as goal
-
-pub returns-then-version-eq1 : goal.returns-then-version-eq1
-returns-then-version-eq1 c = rw (eq-eqb _ _ c.if-version-eq1.true)
-
-pub returns-else-version-eq1 : goal.returns-else-version-eq1
-returns-else-version-eq1 c = rw (ne_eqb _ _ c.if-version-eq1.false)

@@ -1,5 +1,0 @@
-use mir.Facts.{to_z-of_z}
-use Rattle.spelling.proofs.signs.rtp.Goals as goal
-
-pub returns : goal.returns
-returns c = rw (c.rtp_of.ensures, c.parts_of.ensures, to_z-of_z c.ranges.v)
