@@ -1,5 +1,5 @@
-// Lines of numbers in a buffer, which is written out when it is nearly full. They are put by `printing`: each
-// number goes straight to its place in the buffer, as fast as a million lines want it.
+// Lines of numbers in a buffer, which is written out when it is nearly full. `printing` puts each number
+// straight into its place in the buffer.
 use printing::{put, put_after, put_number, write};
 use std::io;
 use std::io::Write;
