@@ -4,13 +4,18 @@
 -- reason_numbered    the reason that has a number, if there is one
 -- number-above       every number of the table is above 0
 -- unplaced           a refusal with no place of its own: 'The place is 0 except for 27 to 33 in a file'
+-- unplaced_number    a number with no place of its own, for every number
+-- numbers_of         a refusal's number and place
+-- shown              a refusal as text: its number, a space, its place
 -- Outcome            a call's result as the paper has it: a value, or a refusal's number and place
 -- outcome_of         the paper's number and values for each case of an answer
-use Rattle.std.specs.Prelude.{Result, Ok, Err, ℕ, List, [], ◌∷◌, cond, eqb, ◌<◌}
+use Rattle.std.specs.Prelude.{Result, Ok, Err, ℕ, List, [], ◌∷◌, ◌++◌, cond, eqb, ◌<◌}
+use Rattle.std.specs.Fmt.{decimal}
 use Rattle.std.proofs.Common.{lit<}
 use Rattle.refusals.specs.declared.Reason.{Reason}
 use Rattle.refusals.specs.declared.Reason.TheVariants.{TooShort, Magic, Version, DataOffset, RsidReserved, Songs, ReservedBits, MusPayload, NoPayload, PastMemory, RsidLoad, RsidInit, FreePages, MusShort, MusPastMemory, VoiceLength, VoicesPastFile, TextLines, BytesAfterText, UnassignedPair, ValueRange, HltMisplaced, Structure, HedZero, TooDeep, TooLong, MemorySize, VoiceNumber, ListLengths, NoPair, NoSuchSong, SapFirstLine, SapLine, SapTags, SapBlock}
 use Rattle.refusals.specs.declared.Refusal.{Refusal}
+use Rattle.refusals.specs.declared.RefusalNumbers.{RefusalNumbers}
 use Rattle.refusals.specs.declared.UnknownNumber.{UnknownNumber}
 
 abbrev pub number_of : Reason → ℕ
@@ -102,6 +107,15 @@ reason_numbered = numbered reasons
 
 abbrev pub unplaced : Reason → Refusal
 unplaced r = record { reason = r; place = 0 }
+
+abbrev pub unplaced_number : ℕ → RefusalNumbers
+unplaced_number n = record { number = n; place = 0 }
+
+abbrev pub numbers_of : Refusal → RefusalNumbers
+numbers_of x = record { number = number_of x.reason; place = x.place }
+
+abbrev pub shown : Refusal → List ℕ
+shown x = decimal (number_of x.reason) ++ (32 ∷ decimal x.place)
 
 pub data Outcome (A : Type 0) : Type 0 where
   accepted : A → Outcome A

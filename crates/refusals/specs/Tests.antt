@@ -6,7 +6,8 @@
 -- None         none of a list of tests applies
 -- guarded      tests before an outcome: a refusal at place 0, or that outcome
 -- and_then      what comes after a part that is accepted; a refusal stands
--- tested       the verdict after one more test, for code that makes its tests one by one
+-- tested       the verdict after one more test, for code that makes its tests one by one; what stands for a
+--              test may be a reason or a number
 use Rattle.std.specs.Prelude.{Result, Ok, Err, ◌≡◌, Bool, false, cond, List, [], ◌∷◌}
 use Rattle.refusals.specs.declared.Reason.{Reason}
 use Rattle.refusals.specs.declared.Test.{Test}
@@ -35,6 +36,6 @@ abbrev pub and_then : {A B : Type 0} → Outcome A → (A → Outcome B) → Out
 and_then (accepted a) f = f a
 and_then (refused number place) f = refused number place
 
-abbrev pub tested : Verdict → Bool → Reason → Verdict
+abbrev pub tested : {E : Type 0} → Result Unit E → Bool → E → Result Unit E
 tested (Ok _) b r = cond b (Err r) (Ok tt)
 tested (Err s) b r = Err s

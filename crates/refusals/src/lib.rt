@@ -2,9 +2,9 @@
 // refusal with its place, and the verdict of tests made in order.
 #![tactic(auto)]
 
-ghost use Rattle.std.specs.Prelude.{◌≡◌};
-ghost use Rattle.refusals.specs.Numbers.{number_of, numbered, reason_numbered, unplaced};
-ghost use Rattle.refusals.specs.Tests.{first_of};
+ghost use Rattle.std.specs.Prelude.{Some, ◌≡◌};
+ghost use Rattle.refusals.specs.Numbers.{number_of, numbered, reason_numbered, unplaced, unplaced_number, numbers_of, shown};
+ghost use Rattle.refusals.specs.Tests.{first_of, tested};
 
 use std::fmt;
 
@@ -146,8 +146,38 @@ impl From<Reason> for Refusal {
 
 // The number and the place.
 impl fmt::Display for Refusal {
+    ghost output = { λ x. Some (shown x) };
+
     fn fmt<W: fmt::Write>(&self, f: &mut fmt::Formatter<W>) -> fmt::Result {
         write!(f, "{} {}", self.reason.number(), self.place)
+    }
+}
+
+// A refusal as the paper writes it, by its number: any number, also one that the table does not have.
+#[derive(Clone, Copy, Debug, PartialEq, Eq)]
+pub struct RefusalNumbers {
+    pub number: u32,
+    pub place: usize,
+}
+
+impl RefusalNumbers {
+    // internal: a number with no place of its own.
+    pub fn unplaced(number: u32) -> RefusalNumbers
+        ensures { result ≡ unplaced_number number }
+    {
+        RefusalNumbers { number, place: 0 }
+    }
+}
+
+// A refusal's number and place.
+impl From<Refusal> for RefusalNumbers {
+    ghost from_gives = { λ x numbers. numbers ≡ numbers_of x };
+
+    fn from(x: Refusal) -> RefusalNumbers {
+        RefusalNumbers {
+            number: x.reason.number(),
+            place: x.place,
+        }
     }
 }
 
@@ -168,4 +198,15 @@ pub fn first_of(tests: &[Test]) -> Result<(), Reason>
         }
     }
     Ok(())
+}
+
+// internal: the verdict after one more test, for tests that are made one by one: a verdict that refuses stays.
+// What stands for a test may be a reason, a number, or what else a caller has.
+pub fn tested<E: Copy>(verdict: Result<(), E>, applies: bool, reason: E) -> Result<(), E>
+    ensures { result ≡ tested verdict applies reason }
+{
+    match verdict {
+        Ok(()) => { if applies { Err(reason) } else { Ok(()) } }
+        Err(first) => Err(first),
+    }
 }
