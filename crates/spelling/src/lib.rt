@@ -4,12 +4,19 @@
 
 ghost use Rattle.std.specs.Prelude.{◌≡◌, ◌+◌, ◌*◌, ◌/◌, ◌<◌};
 ghost use Rattle.refusals.specs.Numbers.{outcome_of};
-ghost use Rattle.spelling.specs.Counts.{bumped, switched, only_yes, counted, phrase, destination, alone, joined, tempo};
+ghost use Rattle.spelling.specs.Counts.{no_bytes, bumped, switched, only_yes, counted, phrase, destination, alone, joined, tempo};
 
 use meaning::{Bump, Bytes};
 use refusals::{Reason, Refusal};
 
 pub mod signs;
+
+// internal: no pair has this meaning.
+pub fn none() -> Result<Bytes, Refusal>
+    ensures { outcome_of result ≡ no_bytes }
+{
+    Err(Reason::NoPair.into())
+}
 
 // internal: BMP.
 pub fn bumped(bump: Bump) -> Result<Bytes, Refusal>
@@ -36,11 +43,7 @@ pub fn switched(set: bool, off: u8, on: u8) -> Result<Bytes, Refusal>
 pub fn only_yes(set: bool, on: u8) -> Result<Bytes, Refusal>
     ensures { outcome_of result ≡ only_yes set on }
 {
-    if set {
-        Ok(Bytes::new(1, on))
-    } else {
-        Err(Reason::NoPair.into())
-    }
+    if set { Ok(Bytes::new(1, on)) } else { none() }
 }
 
 // internal: first byte 01 and a value in the second, from base on in steps. It shares with alone and joined
@@ -53,7 +56,7 @@ pub fn counted(v: u16, most: u16, base: u16, step: u16) -> Result<Bytes, Refusal
     if v <= most {
         Ok(Bytes::new(1, (base + step * v) as u8))
     } else {
-        Err(Reason::NoPair.into())
+        none()
     }
 }
 
@@ -68,7 +71,7 @@ pub fn phrase(v: u16, low: u16, high: u16) -> Result<Bytes, Refusal>
     if v <= 23 {
         Ok(Bytes::new(1, (high + 16 * (v - 16)) as u8))
     } else {
-        Err(Reason::NoPair.into())
+        none()
     }
 }
 
@@ -81,7 +84,7 @@ pub fn destination(v: u16) -> Result<Bytes, Refusal>
         1 => Ok(Bytes::new(1, 0xAF)),
         2 => Ok(Bytes::new(1, 0xDF)),
         3 => Ok(Bytes::new(1, 0xEF)),
-        _ => Err(Reason::NoPair.into()),
+        _ => none(),
     }
 }
 
@@ -92,7 +95,7 @@ pub fn alone(first: u8, v: u16, most: u8) -> Result<Bytes, Refusal>
     if v <= most as u16 {
         Ok(Bytes::new(first, v as u8))
     } else {
-        Err(Reason::NoPair.into())
+        none()
     }
 }
 
@@ -105,7 +108,7 @@ pub fn joined(v: u16, most: u16, base: u16, step: u16) -> Result<Bytes, Refusal>
     if v <= most {
         Ok(Bytes::new((base + step * (v / 256)) as u8, (v % 256) as u8))
     } else {
-        Err(Reason::NoPair.into())
+        none()
     }
 }
 
@@ -114,7 +117,7 @@ pub fn tempo(v: u16) -> Result<Bytes, Refusal>
     ensures { outcome_of result ≡ tempo v }
 {
     if (v == 0) | (256 < v) {
-        Err(Reason::NoPair.into())
+        none()
     } else {
         Ok(Bytes::new(0x06, (v % 256) as u8))
     }

@@ -5,7 +5,7 @@ ghost use Rattle.refusals.specs.Numbers.{outcome_of};
 ghost use Rattle.spelling.specs.Signs.{slot_of, dtn_of, tps_of, rtp_of, spelled_signed, jif, dtn, tps, rtp};
 
 use meaning::Bytes;
-use refusals::{Reason, Refusal};
+use refusals::Refusal;
 use signed::Parts;
 
 // The number that stands for a signed value in a field: of a value of -below to above, its negative numbers
@@ -40,7 +40,9 @@ pub fn signed_byte(first: u8, v: i32, below: u16, above: u16) -> Result<Bytes, R
     requires { below ≤ 256 }
     ensures { outcome_of result ≡ spelled_signed first v below above }
 {
-    let slot = slot_of(v, below, above, 256).ok_or(Reason::NoPair)?;
+    let Some(slot) = slot_of(v, below, above, 256) else {
+        return crate::none();
+    };
     crate::alone(first, slot, 255)
 }
 
@@ -48,7 +50,9 @@ pub fn signed_byte(first: u8, v: i32, below: u16, above: u16) -> Result<Bytes, R
 pub fn jif(v: i32) -> Result<Bytes, Refusal>
     ensures { outcome_of result ≡ jif v }
 {
-    let slot = slot_of(v, 200, 757, 1024).ok_or(Reason::NoPair)?;
+    let Some(slot) = slot_of(v, 200, 757, 1024) else {
+        return crate::none();
+    };
     crate::joined(slot, 1023, 0x3E, 64)
 }
 
@@ -61,12 +65,12 @@ fn dtn_of(parts: Parts) -> Result<Bytes, Refusal>
         if size <= 2048 {
             crate::joined(2048 - size as u16, 2047, 0x1A, 32)
         } else {
-            Err(Reason::NoPair.into())
+            crate::none()
         }
     } else if size <= 2047 {
         crate::joined(size as u16, 2047, 0x0A, 32)
     } else {
-        Err(Reason::NoPair.into())
+        crate::none()
     }
 }
 
@@ -82,7 +86,7 @@ fn tps_of(parts: Parts) -> Result<Bytes, Refusal>
 {
     let size = parts.size;
     if 95 < size {
-        return Err(Reason::NoPair.into());
+        return crate::none();
     }
     let steps = size as u8 % 12;
     let octaves = size as u8 / 12;
@@ -105,7 +109,7 @@ fn rtp_of(parts: Parts) -> Result<Bytes, Refusal>
 {
     let size = parts.size;
     if 47 < size {
-        return Err(Reason::NoPair.into());
+        return crate::none();
     }
     let steps = size as u8 % 12;
     let octaves = size as u8 / 12;
