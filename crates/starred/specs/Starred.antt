@@ -2,7 +2,7 @@
 -- Sum                     a pair and what it means; or a note's first byte alone, its length and tie,
 --                         whatever the second byte; or a note's second byte alone, its pitch and half-step,
 --                         whatever the first; or an RSID file's effective init, by its init field and load
---                         address, and the verdict of tests 1 to 13
+--                         address, and what tests 1 to 13 answer, by its number
 -- pitch, note             a pitch and a note of these parts
 -- word                    a number as two bytes, high byte first
 -- rsid_file                an RSID file of 130 bytes, BASIC clear, by its init field and load address
@@ -10,12 +10,11 @@
 -- starred                 the table, in the paper's order, 01 83 as corrected by request (ii); of RSID the
 --                         effective init by the field, then by the load address where the field is 0
 -- AllHold, starred_hold   each sum of the table is right
-use Rattle.std.specs.Prelude.{Ok, Err, ℕ, ◌/◌, ◌%◌, ◌≡◌, refl as ok, Bool, true, false, List, [], ◌∷◌, ◌++◌, eqb, ℤ, pos, negsuc, replicate}
+use Rattle.std.specs.Prelude.{ℕ, ◌/◌, ◌%◌, ◌≡◌, refl as ok, Bool, true, false, List, [], ◌∷◌, ◌++◌, eqb, ℤ, pos, negsuc, replicate}
 use Rattle.logic.specs.Facts.{◌and◌}
 use Rattle.refusals.specs.Numbers.{Outcome}
 use Rattle.refusals.specs.Numbers.Outcome.{accepted, refused}
-use Rattle.refusals.specs.declared.Reason.TheVariants.{RsidInit}
-use Rattle.refusals.specs.Tests.{Verdict, first_of}
+use Rattle.refusals.specs.Tests.{first_of, guarded}
 use Rattle.meaning.specs.declared.Duration.{Duration}
 use Rattle.meaning.specs.declared.Duration.TheVariants.{Quarter, SixtyFourth}
 use Rattle.meaning.specs.declared.Shape.{Shape}
@@ -44,7 +43,7 @@ pub data Sum : Type 0 where
   means : ℕ → ℕ → Outcome Meaning → Sum
   lasts : ℕ → Duration → Shape → Bool → Sum
   sounds : ℕ → Pitch → ℤ → Sum
-  rsid : ℕ → ℕ → ℕ → Verdict → Sum
+  rsid : ℕ → ℕ → ℕ → Outcome Unit → Sum
 
 abbrev pitch : Letter → Accidental → ℕ → Pitch
 pitch l a o = record { letter = l; accidental = a; octave = o }
@@ -76,9 +75,10 @@ Holds (sounds b p step) =
     ((a : ℕ) → eqb (a % 4) 0 ≡ true
     → meaning_of a b ≡ note (note_of a b).duration (note_of a b).shape (note_of a b).tied (Sounds p))
     × (step_outcome p ≡ accepted step)
--- an RSID file: its effective init, and the first of tests 1 to 13 that applies to its 130 bytes
-Holds (rsid effective init load verdict) =
-    ((header (rsid_file init load)).init ≡ effective) × (first_of (sid_tests (rsid_file init load)) ≡ verdict)
+-- an RSID file: its effective init, and the number of the first of tests 1 to 13 that applies to its 130 bytes
+Holds (rsid effective init load outcome) =
+    ((header (rsid_file init load)).init ≡ effective)
+    × (guarded (first_of (sid_tests (rsid_file init load))) (accepted tt) ≡ outcome)
 
 abbrev pub starred : List Sum
 starred =
@@ -97,13 +97,13 @@ starred =
     ∷ sounds 0x47 (pitch B Sharp 7) (pos 96)
     ∷ means 0x6E 0xF8 (refused 28 0)
     ∷ means 0x01 0x83 (accepted (Def 16))
-    ∷ rsid 0x07E8 0x07E8 0x1000 (Ok tt)
-    ∷ rsid 0x9FFF 0x9FFF 0x1000 (Ok tt)
-    ∷ rsid 0x07E7 0x07E7 0x1000 (Err RsidInit)
-    ∷ rsid 0xA000 0xA000 0x1000 (Err RsidInit)
-    ∷ rsid 0x07E8 0 0x07E8 (Ok tt)
-    ∷ rsid 0x9FFF 0 0x9FFF (Ok tt)
-    ∷ rsid 0xA000 0 0xA000 (Err RsidInit)
+    ∷ rsid 0x07E8 0x07E8 0x1000 (accepted tt)
+    ∷ rsid 0x9FFF 0x9FFF 0x1000 (accepted tt)
+    ∷ rsid 0x07E7 0x07E7 0x1000 (refused 12 0)
+    ∷ rsid 0xA000 0xA000 0x1000 (refused 12 0)
+    ∷ rsid 0x07E8 0 0x07E8 (accepted tt)
+    ∷ rsid 0x9FFF 0 0x9FFF (accepted tt)
+    ∷ rsid 0xA000 0 0xA000 (refused 12 0)
     ∷ []
 
 abbrev pub AllHold : List Sum → Type 0
