@@ -23,7 +23,7 @@ fn only(allowed: bool, meaning: Meaning) -> Result<Meaning, Refusal>
 pub fn unsigned_at(id: u32, v: u16) -> Result<Meaning, Refusal>
     ensures { outcome_of result ≡ command_at unsigned_commands id v }
 {
-    let above = i32::from(v);
+    let above = signed::less(v, 0);
     let set = v == 1;
     let up_to_1 = v <= 1;
     let bare = v == 0;
@@ -87,7 +87,7 @@ pub fn unsigned_at(id: u32, v: u16) -> Result<Meaning, Refusal>
 pub fn negative_at(id: u32, v: u16) -> Result<Meaning, Refusal>
     ensures { outcome_of result ≡ command_at negative_commands id v }
 {
-    let below = -i32::from(v);
+    let below = signed::less(0, v);
     let command = match id {
         0x256 => Meaning::Ps(below),
         0x266 => Meaning::Fs(below),

@@ -10,7 +10,8 @@ use refusals::{Reason, Refusal};
 fn step_number(v: i32) -> u64
     ensures { result ≡ step_number v }
 {
-    if v < 0 { 0 } else { v as u64 + 1 }
+    let parts = signed::parts_of(v);
+    if parts.negative { 0 } else { parts.size as u64 + 1 }
 }
 
 // The number of a tone's half-step; a rest has none.
