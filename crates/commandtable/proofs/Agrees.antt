@@ -1,4 +1,5 @@
 -- The code's table of 256 meanings means at each second byte what the rows say.
+-- agrees           the code at each second byte, of the list of 256 codes, means what the rows say
 -- meant            the meaning of a code of the table of 256 codes, if there is one
 -- meaning_agrees   the meaning at each second byte, or 27
 use Rattle.std.specs.Prelude.{ℕ, ◌/◌, ◌%◌, ◌<◌, ◌≡◌, refl, Option, Some, None, get_or, map}
@@ -13,7 +14,7 @@ use Rattle.commandtable.specs.Codes.{Command, DCY, RUP, CAL, BMP, FLT, RNG, SNC,
 use Rattle.commandtable.specs.Numbering.{command_numbered}
 use Rattle.commandtable.proofs.Table.{entries_right, codes, all_right_entries}
 
-agrees : (b : ℕ) → b < 256 → command_meaning (command_numbered (get_or codes b 0 / 256)) (get_or codes b 0 % 256) ≡ second_outcome b
+pub agrees : (b : ℕ) → b < 256 → command_meaning (command_numbered (get_or codes b 0 / 256)) (get_or codes b 0 % 256) ≡ second_outcome b
 agrees b h = entries_right rows codes all_right_entries b h
 
 abbrev told : Outcome Meaning → Option Meaning

@@ -57,7 +57,7 @@ entries_right rs table t b h =
     let v = eqb→eq (x % 256) (second_by rs b).value (all_right command value r) in
     rw (c, v, command-back k)
 
--- the code's table, which the proof of its reader holds to be this
+-- the table as 256 codes; the proof of the reader of the code's table holds that one to be what these mean
 abbrev pub codes : List ℕ
 codes =
     0x0100 ∷ 0x0200 ∷ 0x0300 ∷ 0x0400 ∷ 0x0A00 ∷ 0x0E00 ∷ 0x0900 ∷ 0x0F00 ∷ 0x1100 ∷ 0x0201 ∷ 0x1200 ∷ 0x0401 ∷ 0x0A01 ∷ 0x0E01 ∷ 0x1400 ∷ 0x1500

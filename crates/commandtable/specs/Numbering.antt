@@ -1,5 +1,5 @@
--- The commands of the first byte 01 by number, in source 004's order from 1, as the code's table of 256 has
--- them; 0 is none.
+-- The commands of the first byte 01 by number, in source 004's order from 1, as a table of 256 codes has them;
+-- 0 is none.
 -- command_number     a command's number
 -- command_numbered   a number's command
 use Rattle.std.specs.Prelude.{ℕ, cond, eqb}
