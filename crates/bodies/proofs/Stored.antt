@@ -12,7 +12,6 @@ use native.Mathlib.Numerals.{add-one}
 use native.Mathlib.Omega.{arith}
 use lib.ListN.{length, drop, get_or, drop_of_length-le}
 use lib.Seq.{drop-cons, drop-nil}
-use Rattle.refusals.specs.declared.Reason.{Reason}
 use Rattle.kind.specs.declared.Kind.{Kind}
 use Rattle.kind.specs.Kinds.{kind_of}
 use Rattle.kind.proofs.PlainEvents as plain
@@ -79,9 +78,9 @@ module _ (bs : List ℕ) (i : ℕ) (h : i < length bs / 2) where
   unfolding with_pair
   hlt_at k = open_as Kind.Hlt k
 
-  pub bad_at : (r : Reason) → kind_of (pair_at bs i) ≡ Kind.Bad r → open_at (pairs bs) i ≡ event here (inner next) ∷ outer next
+  pub bad_at : (n : ℕ) → kind_of (pair_at bs i) ≡ Kind.Bad n → open_at (pairs bs) i ≡ event here (inner next) ∷ outer next
   unfolding with_pair
-  bad_at r k = open_as (Kind.Bad r) k
+  bad_at n k = open_as (Kind.Bad n) k
 
   pub hed_at : (n : ℕ) → kind_of (pair_at bs i) ≡ Kind.Hed n → open_at (pairs bs) i ≡ repeat n (inner next) (inner (outer next)) ∷ outer (outer next)
   unfolding with_pair

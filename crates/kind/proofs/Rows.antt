@@ -17,7 +17,6 @@ use Rattle.logic.specs.Every.{every, every_at, true_of, among}
 use Rattle.commandtable.specs.Codes.{second_outcome}
 use Rattle.command.specs.Others.{single_rows, row_found, joined_outcome, other_outcome}
 use Rattle.command.proofs.Firsts.{singles, pulse_as, single-missed, joined_as}
-use Rattle.refusals.specs.declared.Reason.TheVariants.{UnassignedPair}
 use Rattle.kind.specs.declared.Kind.TheVariants.{Event, Bad}
 use Rattle.kind.specs.Kinds.{kind_of}
 use Rattle.kind.specs.Bytes.{event_if, second_kind}
@@ -35,7 +34,7 @@ ranged_as a within t b h =
 
 -- low nibbles other than 2, 6 and E: DTN, POR and what is unassigned
 joined-kind : (a b : ℕ) → a < 256 → (a % 16 ≡ 2 → ⊥) → (a % 16 ≡ 6 → ⊥) → (a % 16 ≡ 14 → ⊥)
-    → kind_of (other_outcome a b) ≡ cond (eqb (a % 16) 0x0A) Event (cond (eqb (a % 4) 3) Event (Bad UnassignedPair))
+    → kind_of (other_outcome a b) ≡ cond (eqb (a % 16) 0x0A) Event (cond (eqb (a % 4) 3) Event (Bad 27))
 joined-kind a b h p q r =
     let test = true_of (eqb (a % 16) 6 || eqb (a % 16) 14 || not (among singles a)) (every_at (λ k. eqb (k % 16) 6 || eqb (k % 16) 14 || not (among singles k)) 256 tt a h) in
     let none = not-true (among singles a) (rw (ne_eqb (a % 16) 6 q, ne_eqb (a % 16) 14 r) at test) in
@@ -47,7 +46,7 @@ pub por_event : (a b : ℕ) → a < 256 → a % 4 ≡ 3 → kind_of (other_outco
 por_event a b h e =
     joined-kind a b h (λ p. omega arith) (λ p. omega arith) (λ p. omega arith) ∙ rw (ne_eqb (a % 16) 0x0A (λ p. omega arith), e)
 
-pub low-bad : (a b : ℕ) → a < 256 → a % 4 < 2 → kind_of (other_outcome a b) ≡ Bad UnassignedPair
+pub low-bad : (a b : ℕ) → a < 256 → a % 4 < 2 → kind_of (other_outcome a b) ≡ Bad 27
 low-bad a b h e =
     joined-kind a b h (λ p. omega arith) (λ p. omega arith) (λ p. omega arith)
     ∙ rw (ne_eqb (a % 16) 0x0A (λ p. omega arith), ne_eqb (a % 4) 3 (λ p. omega arith))

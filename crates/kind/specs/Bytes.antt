@@ -7,14 +7,15 @@
 -- second_kind         every second byte after 01
 use Rattle.std.specs.Prelude.{ℕ, ◌+◌, ◌/◌, ◌%◌, Bool, ◌||◌, cond, eqb, leb}
 use Rattle.refusals.specs.declared.Reason.TheVariants.{UnassignedPair, ValueRange}
+use Rattle.refusals.specs.Numbers.{number_of}
 use Rattle.kind.specs.declared.Kind.{Kind}
 use Rattle.kind.specs.declared.Kind.TheVariants.{Event, Tal, Def, End, Cal, Hlt, Bad}
 
 abbrev pub event_unless : Bool → Kind
-event_unless b = cond b (Bad UnassignedPair) Event
+event_unless b = cond b (Bad (number_of UnassignedPair)) Event
 
 abbrev pub event_if : Bool → Kind
-event_if b = cond b Event (Bad ValueRange)
+event_if b = cond b Event (Bad (number_of ValueRange))
 
 abbrev pub row3 : ℕ → Kind
 row3 b = cond (leb 0x80 b) (Def (b / 16 + 8)) (event_unless (eqb b 0x53))

@@ -1,24 +1,17 @@
 -- Document 01, 'Playing a voice': what a pair is to the structure of its voice. 'Events are all pairs but
 -- HED, TAL, DEF, END, CAL'; HLT is an event too, with a kind of its own since tests 29 and 30 look for it; a
--- pair that is refused is known by its reason, 27 or 28.
--- refused_pair   the reason of a pair that is refused, by its number: 27, else 28
+-- pair that is refused is known by its number, 27 or 28.
 -- kind_of     a pair's kind, by what the pair means
--- Numbered   a kind's number: HED's is one byte, DEF's and CAL's are 0 to 23, a refused pair's reason is 27
---            or 28
-use Rattle.std.specs.Prelude.{ℕ, ◌<◌, ◌≡◌, ◌⊎◌, cond, eqb}
+-- Numbered   a kind's number: HED's is one byte, DEF's and CAL's are 0 to 23, a refused pair's is 27 or 28
+use Rattle.std.specs.Prelude.{◌<◌, ◌≡◌, ◌⊎◌}
 use Rattle.meaning.specs.declared.Meaning.{Meaning}
 use Rattle.meaning.specs.declared.Meaning.TheVariants.{Note, Dcy, Rup, Cal, Bmp, Flt, Rng, Snc, Fx, Def, Atk, Sus, Lfo, Pv, Rdn, Wav, Fm, Rls, Res, ThreeOff, Vol, Tal, End, Hlt, Src, Dst, Pw, Tem, Utl, Pnt, Hed, Flg, Ps, Fs, Sca, Vdp, Vrt, Aut, Tps, Aux, Pvd, Pvr, Max, Utv, Fc, Rtp, Hld, Ms, Jif, Dtn, Por}
-use Rattle.refusals.specs.declared.Reason.{Reason}
-use Rattle.refusals.specs.declared.Reason.TheVariants.{UnassignedPair, ValueRange}
 use Rattle.refusals.specs.Numbers.{Outcome}
 use Rattle.refusals.specs.Numbers.Outcome.{accepted, refused}
 use Rattle.kind.specs.declared.Kind.{Kind}
 
-abbrev pub refused_pair : ℕ → Reason
-refused_pair number = cond (eqb number 27) UnassignedPair ValueRange
-
 abbrev pub kind_of : Outcome Meaning → Kind
-kind_of (refused number place) = Kind.Bad (refused_pair number)
+kind_of (refused number place) = Kind.Bad number
 kind_of (accepted (Note n)) = Kind.Event
 kind_of (accepted (Dcy v)) = Kind.Event
 kind_of (accepted (Rup v)) = Kind.Event
@@ -79,4 +72,4 @@ Numbered (Kind.Def k) = k < 24
 Numbered Kind.End = Unit
 Numbered (Kind.Cal k) = k < 24
 Numbered Kind.Hlt = Unit
-Numbered (Kind.Bad r) = (r ≡ UnassignedPair) ⊎ (r ≡ ValueRange)
+Numbered (Kind.Bad n) = (n ≡ 27) ⊎ (n ≡ 28)

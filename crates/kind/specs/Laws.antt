@@ -2,8 +2,8 @@
 -- same_kind, same_kind_lem   two kinds compared, and what it shows
 -- kind-bad              a pair that is refused is refused with 27 or 28
 -- kind-numbered         a pair's kind has a number in its bounds
-use Rattle.std.specs.Prelude.{Result, Ok, Err, ℕ, ◌+◌, ◌*◌, ◌/◌, ◌%◌, ◌<◌, ◌≡◌, refl, Bool, true, false, ◌&&◌, ◌||◌, cond, List, [], ◌∷◌, ◌⊎◌, T, eqb, leb, ltb, pos, negsuc}
-use Rattle.std.proofs.Common.{sym, ap, ◌∙◌, subst, inl, inr, arith, eqb→eq, lt-ltb, ltb-true}
+use Rattle.std.specs.Prelude.{ℕ, ◌+◌, ◌*◌, ◌/◌, ◌%◌, ◌<◌, ◌≡◌, refl, Bool, true, false, ◌&&◌, ◌||◌, cond, List, [], ◌∷◌, ◌⊎◌, T, eqb, leb, ltb, pos, negsuc}
+use Rattle.std.proofs.Common.{sym, ◌∙◌, subst, inl, inr, arith, eqb→eq, lt-ltb, ltb-true}
 use Rattle.std.proofs.Math.IntN.{sub_ℕ}
 use Rattle.std.specs.Int.Signed.{le_z}
 use Rattle.meaning.specs.declared.Meaning.{Meaning}
@@ -11,12 +11,8 @@ use Rattle.meaning.specs.declared.Meaning.TheVariants.{Note, Sca, Vdp, Tps, Pvd,
 use Rattle.logic.specs.Cases.{cases}
 use Rattle.logic.specs.Facts.{◌and◌}
 use Rattle.logic.specs.Every.{every_at, all_left, all_right, true_of}
-use Rattle.refusals.specs.declared.Reason.{Reason}
-use Rattle.refusals.specs.declared.Reason.TheVariants.{UnassignedPair, ValueRange}
-use Rattle.refusals.specs.declared.UnknownNumber.{UnknownNumber}
-use Rattle.refusals.specs.Numbers.{Outcome, number_of, reason_numbered}
-use Rattle.refusals.specs.Numbers.Outcome.{accepted, refused}
-use Rattle.refusals.specs.Laws.{numbered-number, number-once}
+use Rattle.refusals.specs.Numbers.{Outcome}
+use Rattle.refusals.specs.Numbers.Outcome.{accepted}
 use Rattle.note.specs.Reading.{note_of}
 use Rattle.commandtable.specs.Patterns as Pattern
 use Rattle.commandtable.specs.Patterns.{byte, number}
@@ -49,11 +45,7 @@ held (Def k) = k
 held End = 0
 held (Cal k) = k
 held Hlt = 0
-held (Bad r) = number_of r
-
-abbrev bad_numbered : Result Reason UnknownNumber → Kind
-bad_numbered (Ok r) = Bad r
-bad_numbered (Err u) = Event
+held (Bad n) = n
 
 abbrev made : ℕ → ℕ → Kind
 made t n =
@@ -63,7 +55,7 @@ made t n =
     (cond (eqb t 3) (Def n)
     (cond (eqb t 4) End
     (cond (eqb t 5) (Cal n)
-    (cond (eqb t 6) Hlt (bad_numbered (reason_numbered n))))))))
+    (cond (eqb t 6) Hlt (Bad n)))))))
 
 made-back : (k : Kind) → made (tag k) (held k) ≡ k
 made-back Event = refl
@@ -73,7 +65,7 @@ made-back (Def k) = refl
 made-back End = refl
 made-back (Cal k) = refl
 made-back Hlt = refl
-made-back (Bad r) = ap bad_numbered (numbered-number r)
+made-back (Bad n) = refl
 
 abbrev pub same_kind : Kind → Kind → Bool
 same_kind j k = eqb (tag j) (tag k) && eqb (held j) (held k)
@@ -85,16 +77,11 @@ same_kind_lem j k t =
     let numbers = eqb→eq (held j) (held k) (all_right (eqb (tag j) (tag k)) (eqb (held j) (held k)) t) in
     sym (made-back j) ∙ (λ i. made (tags i) (numbers i)) ∙ made-back k
 
--- the number of a refusal, and 27 for anything else
-abbrev refusal_number : Outcome Meaning → ℕ
-refusal_number (accepted m) = 27
-refusal_number (refused number place) = number
-
--- A test of kinds, and of a refusal's number, that events, 27 and 28 pass.
+-- A test of kinds that events, 27 and 28 pass.
 -- Every pair passes it, if HED with its second byte does and the second byte after 01 does.
-module _ (f : Kind → ℕ → Bool) (event : T (f Event 27)) (none : T (f (Bad UnassignedPair) 27)) (out : T (f (Bad ValueRange) 28)) where
+module _ (f : Kind → Bool) (event : T (f Event)) (none : T (f (Bad 27))) (out : T (f (Bad 28))) where
   abbrev Held : Outcome Meaning → Type 0
-  Held x = T (f (kind_of x) (refusal_number x))
+  Held x = T (f (kind_of x))
 
   up-to-127 : (v : ℕ) (m : Meaning) → Held (accepted m) → Held (up_to127 v m)
   up-to-127 v m h = picked Held (leb v 127) (accepted m) out_of_range (λ t. h) out
@@ -117,7 +104,7 @@ module _ (f : Kind → ℕ → Bool) (event : T (f Event 27)) (none : T (f (Bad 
       (λ t. event)
       (picked Held (leb v 823) out_of_range (accepted (Jif (sub_ℕ v 1024))) (λ t. out) event)
 
-  singles : (a b : ℕ) → T (f (Hed (0 * 256 + b)) 27) → Each Held single_rows a b
+  singles : (a b : ℕ) → T (f (Hed (0 * 256 + b))) → Each Held single_rows a b
   singles a b hed =
       let v = 0 * 256 + b in
       (λ t. event)
@@ -151,7 +138,7 @@ module _ (f : Kind → ℕ → Bool) (event : T (f Event 27)) (none : T (f (Bad 
       and (λ t. event)
       and tt
 
-  pair-passes : (a b : ℕ) → T (f (Hed (0 * 256 + b)) 27) → Held (second_outcome b) → Held (meaning_of a b)
+  pair-passes : (a b : ℕ) → T (f (Hed (0 * 256 + b))) → Held (second_outcome b) → Held (meaning_of a b)
   pair-passes a b hed second =
       let third = found-holds Held joined_rows a b unassigned (joineds a b) none in
       let other = found-holds Held single_rows a b (joined_outcome a b) (singles a b hed) third in
@@ -159,23 +146,27 @@ module _ (f : Kind → ℕ → Bool) (event : T (f Event 27)) (none : T (f (Bad 
       (picked Held (eqb a 1) (second_outcome b) (other_outcome a b) (λ t. second)
       (found-holds Held pulse_rows a b (row_found single_rows a b (joined_outcome a b)) (λ t. event, tt) other))
 
--- a refusal's number as a test, of any kind
-abbrev known : Kind → ℕ → Bool
-known k n = eqb n 27 || eqb n 28
-
-abbrev outcome_known : Outcome Meaning → Bool
-outcome_known x = known (kind_of x) (refusal_number x)
+-- a refusal's number as a test
+abbrev known : Kind → Bool
+known Event = true
+known (Hed n) = true
+known Tal = true
+known (Def k) = true
+known End = true
+known (Cal k) = true
+known Hlt = true
+known (Bad n) = eqb n 27 || eqb n 28
 
 -- after 01 no row is refused, and a second byte without a row is 27
 abbrev row_known : Row → ℕ → Bool
-row_known r b = outcome_known (command_meaning r.command (r.added + number r.pattern b))
+row_known r b = known (kind_of (command_meaning r.command (r.added + number r.pattern b)))
 
 abbrev all_known : List Row → ℕ → Bool
 all_known [] b = true
 all_known (r ∷ rs) b = row_known r b && all_known rs b
 
 second-known : (rs : List Row) (b : ℕ) → T (all_known rs b)
-    → T (outcome_known (command_meaning (second_by rs b).command (second_by rs b).value))
+    → T (known (kind_of (command_meaning (second_by rs b).command (second_by rs b).value)))
 second-known [] b t = tt
 second-known (r ∷ rs) b t =
     cases (fits_row r b) (λ e. rw e (all_left (row_known r b) (all_known rs b) t))
@@ -186,42 +177,38 @@ either true t f g h = inl (f tt)
 either false t f g h = inr (g h)
 
 -- A pair that is refused is refused with 27 or 28, whatever its two numbers are.
-pub kind-bad : (a b n p : ℕ) → meaning_of a b ≡ refused n p → (n ≡ 27) ⊎ (n ≡ 28)
-kind-bad a b n p e =
+pub kind-bad : (a b n : ℕ) → kind_of (meaning_of a b) ≡ Bad n → (n ≡ 27) ⊎ (n ≡ 28)
+kind-bad a b n e =
     either (eqb n 27) (eqb n 28) (eqb→eq n 27) (eqb→eq n 28)
-    (subst (λ (x : Outcome Meaning). T (outcome_known x)) e (pair-passes known tt tt tt a b tt (second-known rows b tt)))
+    (subst (λ (k : Kind). T (known k)) e (pair-passes known tt tt tt a b tt (second-known rows b tt)))
 
--- the bounds as a test, of any refusal's number
-abbrev bounded : Kind → ℕ → Bool
-bounded Event m = true
-bounded (Hed n) m = ltb n 256
-bounded Tal m = true
-bounded (Def k) m = ltb k 24
-bounded End m = true
-bounded (Cal k) m = ltb k 24
-bounded Hlt m = true
-bounded (Bad r) m = eqb (number_of r) 27 || eqb (number_of r) 28
+-- the other bounds as a test
+abbrev bounded : Kind → Bool
+bounded Event = true
+bounded (Hed n) = ltb n 256
+bounded Tal = true
+bounded (Def k) = ltb k 24
+bounded End = true
+bounded (Cal k) = ltb k 24
+bounded Hlt = true
+bounded (Bad n) = true
 
-pair-bounded : (a b : ℕ) → b < 256 → T (bounded (kind_of (meaning_of a b)) (refusal_number (meaning_of a b)))
+pair-bounded : (a b : ℕ) → b < 256 → T (bounded (kind_of (meaning_of a b)))
 pair-bounded a b h =
     let v = 0 * 256 + b in
     let hed : T (ltb v 256) = rw (lt-ltb v 256 (omega arith)) tt in
-    pair-passes bounded tt tt tt a b hed (every_at (λ k. bounded (kind_of (second_outcome k)) (refusal_number (second_outcome k))) 256 tt b h)
+    pair-passes bounded tt tt tt a b hed (every_at (λ k. bounded (kind_of (second_outcome k))) 256 tt b h)
 
-numbered_by : (k : Kind) (m : ℕ) → T (bounded k m) → Numbered k
-numbered_by Event m t = tt
-numbered_by (Hed n) m t = ltb-true n 256 (true_of (ltb n 256) t)
-numbered_by Tal m t = tt
-numbered_by (Def k) m t = ltb-true k 24 (true_of (ltb k 24) t)
-numbered_by End m t = tt
-numbered_by (Cal k) m t = ltb-true k 24 (true_of (ltb k 24) t)
-numbered_by Hlt m t = tt
-numbered_by (Bad r) m t =
-    either (eqb (number_of r) 27) (eqb (number_of r) 28)
-    (λ s. number-once r UnassignedPair (eqb→eq (number_of r) 27 s))
-    (λ s. number-once r ValueRange (eqb→eq (number_of r) 28 s))
-    t
+numbered_by : (k : Kind) → T (bounded k) → ((n : ℕ) → k ≡ Bad n → (n ≡ 27) ⊎ (n ≡ 28)) → Numbered k
+numbered_by Event t bad = tt
+numbered_by (Hed n) t bad = ltb-true n 256 (true_of (ltb n 256) t)
+numbered_by Tal t bad = tt
+numbered_by (Def k) t bad = ltb-true k 24 (true_of (ltb k 24) t)
+numbered_by End t bad = tt
+numbered_by (Cal k) t bad = ltb-true k 24 (true_of (ltb k 24) t)
+numbered_by Hlt t bad = tt
+numbered_by (Bad n) t bad = bad n refl
 
 -- A pair whose second number is a byte has a kind whose number is in its bounds.
 pub kind-numbered : (a b : ℕ) → b < 256 → Numbered (kind_of (meaning_of a b))
-kind-numbered a b h = numbered_by (kind_of (meaning_of a b)) (refusal_number (meaning_of a b)) (pair-bounded a b h)
+kind-numbered a b h = numbered_by (kind_of (meaning_of a b)) (pair-bounded a b h) (kind-bad a b)

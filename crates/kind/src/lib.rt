@@ -7,15 +7,15 @@ ghost use Rattle.pair.specs.Pairs.{meaning_of};
 ghost use Rattle.kind.specs.Kinds.{kind_of};
 ghost use Rattle.kind.specs.Plain.{is_plain};
 
-use refusals::Reason;
-
 mod others;
 mod plain;
 mod seconds;
 
-// An event, one of the pairs that make bodies, HLT, or a pair that is refused, with the reason 27 or 28. HLT
+// An event, one of the pairs that make bodies, HLT, or a pair that is refused, with the number 27 or 28. HLT
 // is an event too; it has a kind of its own since tests 29 and 30 look for it. The bounds of its numbers
-// (`Numbered`) are conditions of calls that docs/CONTRACTS.md names, so the type does not carry them.
+// (`Numbered`) are conditions of calls that docs/CONTRACTS.md names, so the type does not carry them. A
+// pair that is refused is known by its number and not by a `Reason`: the definition of `kind_of` speaks of
+// every outcome, and not every number is one of a reason.
 #[derive(Clone, Copy)]
 pub enum Kind {
     Event,
@@ -25,7 +25,7 @@ pub enum Kind {
     End,
     Cal(u16),
     Hlt,
-    Bad(Reason),
+    Bad(u32),
 }
 
 // internal: the kind of a pair. Notes, the commonest, come first, then the commands of the first byte 01.

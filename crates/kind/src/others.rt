@@ -14,7 +14,7 @@ fn event_if(within: bool) -> Kind
     if within {
         Kind::Event
     } else {
-        Kind::Bad(Reason::ValueRange)
+        Kind::Bad(Reason::ValueRange.number())
     }
 }
 
@@ -29,7 +29,7 @@ pub fn other_kind(first: u8, second: u8) -> Kind
         return Kind::Event;
     }
     if first % 4 != 2 {
-        return Kind::Bad(Reason::UnassignedPair);
+        return Kind::Bad(Reason::UnassignedPair.number());
     }
     match first {
         0x36 => Kind::Hed(second as u16),
@@ -41,10 +41,10 @@ pub fn other_kind(first: u8, second: u8) -> Kind
         0x2E => event_if((second < 0xB8) & ((0x60 <= second) | (second % 8 < 7))),
         0xBE => event_if(second < 0xF6),
         0xFE => event_if(0x37 < second),
-        0x8E => Kind::Bad(Reason::UnassignedPair),
-        0xAE => Kind::Bad(Reason::UnassignedPair),
-        0xCE => Kind::Bad(Reason::UnassignedPair),
-        0xEE => Kind::Bad(Reason::UnassignedPair),
+        0x8E => Kind::Bad(Reason::UnassignedPair.number()),
+        0xAE => Kind::Bad(Reason::UnassignedPair.number()),
+        0xCE => Kind::Bad(Reason::UnassignedPair.number()),
+        0xEE => Kind::Bad(Reason::UnassignedPair.number()),
         _ => Kind::Event,
     }
 }

@@ -12,7 +12,7 @@ fn event_unless(unassigned: bool) -> Kind
     ensures { result ≡ event_unless unassigned }
 {
     if unassigned {
-        Kind::Bad(Reason::UnassignedPair)
+        Kind::Bad(Reason::UnassignedPair.number())
     } else {
         Kind::Event
     }

@@ -3,20 +3,22 @@
 -- hlt-only      HLT is the only meaning of its kind
 -- voice-halts   a voice of at least one pair, played out, ends in its only HLT
 use Prim.Native.Nat.{ℕ, suc, ◌+◌}
-use mathlib.Core.Path.{◌≡◌, refl, sym, subst}
+use mathlib.Core.Path.{◌≡◌, refl, sym, ◌∙◌, subst}
 use mathlib.Core.Bool.{Bool, true, false, not, cond}
 use mathlib.Core.List.{List, [], ◌∷◌}
-use mathlib.Core.Logic.{inl, inr}
+use mathlib.Core.Logic.{◌⊎◌, inl, inr, ⊎_elim}
 use native.Mathlib.Omega.{arith}
 use lib.ListN.{length}
-use lib.Dec.{eqb}
+use borrow.Author.Tests.{eq-eqb}
 use Rattle.logic.specs.Cases.{cases}
 use Rattle.meaning.specs.declared.Meaning.{Meaning}
 use Rattle.refusals.specs.Numbers.{Outcome}
 use Rattle.refusals.specs.Numbers.Outcome.{accepted, refused}
 use Rattle.refusals.specs.Tests.{None}
 use Rattle.pair.specs.Pairs.{meaning_of}
+use Rattle.kind.specs.declared.Kind.{Kind}
 use Rattle.kind.specs.Kinds.{kind_of}
+use Rattle.kind.specs.Laws.{kind-bad}
 use Rattle.bodies.specs.Voice as voice
 use Rattle.bodies.specs.Bodies.{event_at, piece, pieces}
 use Rattle.bodies.specs.Playing.{played}
@@ -29,18 +31,19 @@ use Rattle.structure.specs.Findings.{is_last, pairs_tests, nestings_tests, AllNo
 use Rattle.structure.proofs.Sound.{sound}
 
 pair-means : (o : Outcome Meaning) (last : Bool) (v : List (Outcome Meaning))
+    → ((n : ℕ) → kind_of o ≡ Kind.Bad n → (n ≡ 27) ⊎ (n ≡ 28))
     → None (pair_tests (kind_of o) last) → AllMean v → AllMean (o ∷ v)
 unfolding AllMean
-pair-means (accepted m) last v t h = h
-pair-means (refused n p) last v t h =
-    absurd (cases (eqb n 27) (λ e. differ (sym (rw e at t.0))) (λ e. differ (sym (rw e at t.1.0))))
+pair-means (accepted m) last v bad t h = h
+pair-means (refused n p) last v bad t h =
+    absurd (⊎_elim (λ e. differ (sym t.0 ∙ eq-eqb n 27 e)) (λ e. differ (sym t.1.0 ∙ eq-eqb n 28 e)) (bad n refl))
 
 pub all_mean : (bs : List ℕ) → AllNone (pairs_tests (voice.pairs bs)) → AllMean (voice.pairs bs)
 unfolding voice.pairs_by voice.pairs pairs_tests AllNone AllMean
 all_mean [] t = tt
 all_mean (a ∷ []) t = tt
 all_mean (a ∷ b ∷ bs) t =
-    pair-means (meaning_of a b) (is_last (voice.pairs bs)) (voice.pairs bs) t.0 (all_mean bs t.1)
+    pair-means (meaning_of a b) (is_last (voice.pairs bs)) (voice.pairs bs) (kind-bad a b) t.0 (all_mean bs t.1)
 
 hlt-only : (o : Outcome Meaning) → is_hlt (kind_of o) ≡ true → o ≡ accepted Meaning.Hlt
 hlt-only (refused n p) e = absurd (differ e)

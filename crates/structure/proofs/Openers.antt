@@ -83,8 +83,8 @@ module _ (o : Open) where
   pub event-on : Stepped Event o true (Ok (step o None))
   event-on = (refl, record { opens = refl; few = stay }, λ f. refl)
 
-  pub bad-on : (r : Reason) → Stepped (Bad r) o true (Ok (step o None))
-  bad-on r = (refl, record { opens = refl; few = stay }, λ f. refl)
+  pub bad-on : (n : ℕ) → Stepped (Bad n) o true (Ok (step o None))
+  bad-on n = (refl, record { opens = refl; few = stay }, λ f. refl)
 
   pub hed-off : (n : ℕ) → n ≡ 0 → Stepped (Hed n) o true (Err HedZero)
   hed-off n e = rw (eq-eqb n 0 e)

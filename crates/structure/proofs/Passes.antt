@@ -80,7 +80,7 @@ asked-once (Def k) o f = refl
 asked-once End o f = refl
 asked-once (Cal k) o f = refl
 asked-once Hlt o f = refl
-asked-once (Bad r) o f = refl
+asked-once (Bad n) o f = refl
 
 -- a cell set is a number more that is closed
 held_more : (cells : List Bool) (k : ℕ) → k < length cells → held (set cells k true) ≡ also k (held cells)

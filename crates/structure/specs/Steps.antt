@@ -43,7 +43,7 @@ number_in (Def k) = k
 number_in End = 0
 number_in (Cal k) = k
 number_in Hlt = 0
-number_in (Bad r) = 0
+number_in (Bad n) = 0
 
 pub record Few (o : Open) (n : ℕ) : Type 0 where
   pub inside : o.inside ≤ n

@@ -1,4 +1,5 @@
 -- Document 01, 'MUS container' and 'Playing a voice': 27 to 31 at one pair.
+-- refused_pair             the reason of a pair that is refused, by its number: 27, else 28
 -- is_bad, is_hlt            a pair that is refused with a number; HLT
 -- misplaced_hlt            'HLT before the last pair, or a last pair that isn't HLT, is 29'
 -- pair_tests               27 to 29, 'at one pair the lower number'
@@ -17,12 +18,16 @@
 -- start                   what is open and closed before the first pair: nothing
 use Rattle.std.specs.Prelude.{ℕ, Bool, true, false, not, ◌||◌, cond, List, [], ◌∷◌, eqb}
 use Rattle.refusals.specs.Numbers.{number_of}
+use Rattle.refusals.specs.declared.Reason.{Reason}
 use Rattle.refusals.specs.declared.Reason.TheVariants.{UnassignedPair, ValueRange, HltMisplaced, Structure, HedZero}
 use Rattle.refusals.specs.declared.Test.{Test}
 use Rattle.refusals.specs.Tests.{test}
 use Rattle.kind.specs.declared.Kind.{Kind}
 use Rattle.kind.specs.declared.Kind.TheVariants.{Event, Hed, Tal, Def, End, Cal, Hlt, Bad}
 use Rattle.bodies.specs.Order.{also, none_closed}
+
+abbrev pub refused_pair : ℕ → Reason
+refused_pair number = cond (eqb number 27) UnassignedPair ValueRange
 
 abbrev pub is_bad : ℕ → Kind → Bool
 is_bad number Event = false
@@ -32,7 +37,7 @@ is_bad number (Def k) = false
 is_bad number End = false
 is_bad number (Cal k) = false
 is_bad number Hlt = false
-is_bad number (Bad r) = eqb (number_of r) number
+is_bad number (Bad n) = eqb n number
 
 abbrev pub is_hlt : Kind → Bool
 is_hlt Event = false
@@ -42,7 +47,7 @@ is_hlt (Def k) = false
 is_hlt End = false
 is_hlt (Cal k) = false
 is_hlt Hlt = true
-is_hlt (Bad r) = false
+is_hlt (Bad n) = false
 
 abbrev pub misplaced_hlt : Kind → Bool → Bool
 misplaced_hlt z last = cond (is_hlt z) (not last) last
@@ -95,7 +100,7 @@ misplaced End o = not (last_def o.openers)
 misplaced (Cal k) o = not (o.closed k)
 -- 'HLT with HED or DEF open'
 misplaced Hlt o = any o.openers
-misplaced (Bad r) o = false
+misplaced (Bad n) o = false
 
 abbrev pub hed_of_zero : Kind → Bool
 hed_of_zero Event = false
@@ -105,7 +110,7 @@ hed_of_zero (Def k) = false
 hed_of_zero End = false
 hed_of_zero (Cal k) = false
 hed_of_zero Hlt = false
-hed_of_zero (Bad r) = false
+hed_of_zero (Bad n) = false
 
 abbrev pub nesting_tests : Kind → Nesting → List Test
 nesting_tests z o = test Structure (misplaced z o) ∷ test HedZero (hed_of_zero z) ∷ []
@@ -122,7 +127,7 @@ openers_after (Def k) os = by_def k ∷ os
 openers_after End os = rest os
 openers_after (Cal k) os = os
 openers_after Hlt os = os
-openers_after (Bad r) os = os
+openers_after (Bad n) os = os
 
 abbrev pub closed_by : List Opener → (ℕ → Bool) → ℕ → Bool
 closed_by [] closed = closed
@@ -137,7 +142,7 @@ closed_after (Def k) os closed = closed
 closed_after End os closed = closed_by os closed
 closed_after (Cal k) os closed = closed
 closed_after Hlt os closed = closed
-closed_after (Bad r) os closed = closed
+closed_after (Bad n) os closed = closed
 
 abbrev pub nesting_after : Kind → Nesting → Nesting
 nesting_after z o = record { openers = openers_after z o.openers; closed = closed_after z o.openers o.closed }

@@ -3,7 +3,7 @@ ghost use Rattle.std.specs.Prelude.{◌≡◌, [], ◌∷◌};
 ghost use Rattle.refusals.specs.declared.Reason.TheVariants.{HltMisplaced};
 ghost use Rattle.refusals.specs.Tests.{test, first_of};
 ghost use Rattle.kind.specs.Kinds.{Numbered};
-ghost use Rattle.structure.specs.Tests.{pair_tests};
+ghost use Rattle.structure.specs.Tests.{refused_pair, pair_tests};
 
 use kind::Kind;
 use refusals::Reason;
@@ -19,8 +19,19 @@ fn unless_last(last: bool) -> Result<(), Reason>
     }
 }
 
+// The reason of a pair that is refused with 27 or 28.
+fn refused_pair(number: u32) -> Reason
+    ensures { result ≡ refused_pair number }
+{
+    if number == 27 {
+        Reason::UnassignedPair
+    } else {
+        Reason::ValueRange
+    }
+}
+
 // internal: the first of 27 to 29 that applies to a pair, which is the voice's last or not. Callers see that
-// a refused pair's reason is 27 or 28.
+// a refused pair's number is 27 or 28.
 pub fn test_pair(kind: Kind, last: bool) -> Result<(), Reason>
     requires { Numbered kind }
     ensures { result ≡ first_of (pair_tests kind last) }
@@ -33,6 +44,6 @@ pub fn test_pair(kind: Kind, last: bool) -> Result<(), Reason>
         Kind::End => unless_last(last),
         Kind::Cal(_) => unless_last(last),
         Kind::Hlt => unless_last(!last),
-        Kind::Bad(reason) => Err(reason),
+        Kind::Bad(number) => Err(refused_pair(number)),
     }
 }

@@ -13,7 +13,7 @@ pub returns-then-first-eq3 : goal.returns-then-first-eq3
 returns-then-first-eq3 c = rw (por_event c.args.first c.args.second (search rules) (search rules))
 
 pub returns-then-first-ne2 : goal.returns-then-first-ne2
-returns-then-first-ne2 c = rw (low-bad c.args.first c.args.second (search rules) (search rules))
+returns-then-first-ne2 c = rw (low-bad c.args.first c.args.second (search rules) (search rules), c.number.ensures)
 
 pub returns-in-54 : goal.returns-in-54
 returns-in-54 c = rw (c.in-54.is, zero-add c.args.second)
@@ -48,13 +48,13 @@ returns-in_default c =
     rw (rest-event c.args.first c.args.second (search rules) (search rules) (search rules) (rw (ne_eqb _ _ r.0.0.0.0.0.0.0.0.0.0.0.0.1, ne_eqb _ _ r.0.0.0.0.0.0.0.0.0.0.0.1, ne_eqb _ _ r.0.0.0.0.0.0.0.0.0.0.1, ne_eqb _ _ r.0.0.0.0.0.0.0.0.0.1, ne_eqb _ _ r.0.0.0.0.0.0.0.0.1, ne_eqb _ _ r.0.0.0.0.0.0.0.1, ne_eqb _ _ r.0.0.0.0.0.0.1, ne_eqb _ _ r.0.0.0.0.0.1, ne_eqb _ _ r.0.0.0.0.1, ne_eqb _ _ r.0.0.0.1, ne_eqb _ _ r.0.0.1, ne_eqb _ _ r.0.1, ne_eqb _ _ r.1)))
 
 pub returns-in-142 : goal.returns-in-142
-returns-in-142 c = rw c.in-142.is
+returns-in-142 c = rw (c.in-142.is, c.number-in-142.ensures)
 
 pub returns-in-174 : goal.returns-in-174
-returns-in-174 c = rw c.in-174.is
+returns-in-174 c = rw (c.in-174.is, c.number-in-174.ensures)
 
 pub returns-in-206 : goal.returns-in-206
-returns-in-206 c = rw c.in-206.is
+returns-in-206 c = rw (c.in-206.is, c.number-in-206.ensures)
 
 pub returns-in-238 : goal.returns-in-238
-returns-in-238 c = rw c.in-238.is
+returns-in-238 c = rw (c.in-238.is, c.number-in-238.ensures)

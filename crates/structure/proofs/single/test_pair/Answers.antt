@@ -1,5 +1,6 @@
 -- `structure::single::test_pair` meets its contract.
-use mathlib.Core.Path.{subst}
+use mathlib.Core.Path.{ap, subst, ◌∙◌}
+use Rattle.std.specs.Prelude.{Err}
 use Rattle.kind.specs.Kinds.{Numbered}
 use Rattle.structure.proofs.Singles.{bad-either}
 use Rattle.structure.proofs.single.test_pair.Goals as goal
@@ -7,7 +8,7 @@ use Rattle.structure.proofs.single.test_pair.Goals as goal
 pub returns-in-Bad : goal.returns-in-Bad
 returns-in-Bad c =
     let is = c.in-Bad.is in
-    rw is (bad-either _ _ (subst Numbered is c.requires))
+    rw is (ap Err c.refused_pair.ensures ∙ bad-either _ _ (subst Numbered is c.requires))
 
 pub returns-in-Event : goal.returns-in-Event
 returns-in-Event c = rw (c.in-Event.is, c.unless_last.ensures)
