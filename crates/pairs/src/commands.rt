@@ -1,7 +1,7 @@
 // What a pair's meaning is called: source 004's abbreviation, and the value.
-use crate::notes::NoteWords;
+use crate::notes::put_note;
 use meaning::{Bump, Meaning, Note};
-use std::fmt;
+use printing::{put, put_signed};
 
 // A meaning by what is to be shown: a note, or a command's abbreviation and its value.
 #[derive(Clone, Copy)]
@@ -73,17 +73,25 @@ impl From<Meaning> for Words {
     }
 }
 
-impl fmt::Display for Words {
-    fn fmt<W: fmt::Write>(&self, f: &mut fmt::Formatter<W>) -> fmt::Result {
-        match *self {
-            Words::Note(note) => write!(f, "{}", NoteWords(note)),
-            Words::Bare(name) => f.write_str(name),
-            Words::Count(name, value) => write!(f, "{name} {value}"),
-            Words::Integer(name, value) => write!(f, "{name} {value}"),
-            Words::Switch(name, false) => write!(f, "{name} NO"),
-            Words::Switch(name, true) => write!(f, "{name} YES"),
-            Words::Bump(name, Bump::Up) => write!(f, "{name} UP"),
-            Words::Bump(name, Bump::Down) => write!(f, "{name} DN"),
-        }
+fn put_named(out: &mut [u8], at: usize, name: &str, word: &[u8]) -> usize {
+    let to = put(out, at, name.as_bytes());
+    put(out, to, word)
+}
+
+fn put_valued(out: &mut [u8], at: usize, name: &str, value: i32) -> usize {
+    let to = put_named(out, at, name, b" ");
+    put_signed(out, to, value)
+}
+
+pub fn put_words(out: &mut [u8], at: usize, words: Words) -> usize {
+    match words {
+        Words::Note(note) => put_note(out, at, note),
+        Words::Bare(name) => put(out, at, name.as_bytes()),
+        Words::Count(name, value) => put_valued(out, at, name, i32::from(value)),
+        Words::Integer(name, value) => put_valued(out, at, name, value),
+        Words::Switch(name, false) => put_named(out, at, name, b" NO"),
+        Words::Switch(name, true) => put_named(out, at, name, b" YES"),
+        Words::Bump(name, Bump::Up) => put_named(out, at, name, b" UP"),
+        Words::Bump(name, Bump::Down) => put_named(out, at, name, b" DN"),
     }
 }

@@ -2,7 +2,10 @@
 // byte is no pair and is left out.
 #![tactic(auto)]
 
-use commands::Words;
+use commands::{Words, put_words};
+use meaning::Bytes;
+use printing::{put, put_after, put_hex, write};
+use refusals::Refusal;
 use std::io;
 use std::io::{Read, Write};
 
@@ -15,33 +18,50 @@ const PART: usize = 65536;
 // The output's buffer is emptied from here on; no line is as long as what is left of PART bytes.
 const NEARLY_FULL: usize = 65000;
 
-fn write_line(out: &mut impl Write, first: u8, second: u8) -> io::Result<()> {
-    write!(out, "{first:02X} {second:02X} ")?;
-    match pair::read(first, second) {
+fn put_refusal(out: &mut [u8], at: usize, refusal: Refusal) -> usize {
+    put_after(out, at, b"refused ", u64::from(refusal.reason.number()))
+}
+
+// Two bytes, with a space between.
+fn put_bytes(out: &mut [u8], at: usize, bytes: Bytes) -> usize {
+    let to = put_hex(out, at, bytes.first);
+    let to = put(out, to, b" ");
+    put_hex(out, to, bytes.second)
+}
+
+// What a pair means, a space, and the writer's bytes for it.
+fn put_answer(out: &mut [u8], at: usize, pair: Bytes) -> usize {
+    match pair::read(pair.first, pair.second) {
         Ok(meaning) => {
-            write!(out, "{} ", Words::from(meaning))?;
+            let to = put_words(out, at, Words::from(meaning));
+            let to = put(out, to, b" ");
             match pair::write(meaning) {
-                Ok(bytes) => writeln!(out, "{:02X} {:02X}", bytes.first, bytes.second),
-                Err(refusal) => writeln!(out, "refused {}", refusal.reason.number()),
+                Ok(bytes) => put_bytes(out, to, bytes),
+                Err(refusal) => put_refusal(out, to, refusal),
             }
         }
-        Err(refusal) => writeln!(out, "refused {}", refusal.reason.number()),
+        Err(refusal) => put_refusal(out, at, refusal),
     }
+}
+
+fn put_line(out: &mut [u8], at: usize, pair: Bytes) -> usize {
+    let to = put_bytes(out, at, pair);
+    let to = put(out, to, b" ");
+    let to = put_answer(out, to, pair);
+    put(out, to, b"\n")
 }
 
 fn show_pairs(to: &mut impl Write, input: &[u8], out: &mut [u8]) -> io::Result<()> {
     let mut used = 0;
     for pair in input.chunks_exact(2) {
-        if NEARLY_FULL < used {
-            to.write_all(&out[..used])?;
+        if NEARLY_FULL <= used {
+            write(to, fields::part(out, 0, used))?;
             used = 0;
         }
-        let mut room = &mut out[used..];
-        write_line(&mut room, pair[0], pair[1])?;
-        let left = room.len();
-        used = out.len().saturating_sub(left);
+        used = put_line(out, used, Bytes::new(pair[0], pair[1]));
     }
-    to.write_all(&out[..used])
+    write(to, fields::part(out, 0, used))?;
+    Ok(())
 }
 
 // Takes one part of the input; answers whether there may be another.

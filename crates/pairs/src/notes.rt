@@ -1,6 +1,7 @@
 // The words for a note.
+use crate::put_refusal;
 use meaning::{Accidental, Duration, Letter, Note, Pitch, Shape, Tone};
-use std::fmt;
+use printing::{put, put_number, put_signed};
 
 fn duration_word(duration: Duration) -> &'static str {
     match duration {
@@ -48,42 +49,48 @@ fn accidental_word(accidental: Accidental) -> &'static str {
     }
 }
 
-// Letter, accidental, octave and half-step.
-#[derive(Clone, Copy)]
-struct PitchWords(Pitch);
+// A word and the space after it.
+fn put_word(out: &mut [u8], at: usize, word: &str) -> usize {
+    let to = put(out, at, word.as_bytes());
+    put(out, to, b" ")
+}
 
-impl fmt::Display for PitchWords {
-    fn fmt<W: fmt::Write>(&self, f: &mut fmt::Formatter<W>) -> fmt::Result {
-        let pitch = self.0;
-        let letter = letter_word(pitch.letter);
-        let accidental = accidental_word(pitch.accidental);
-        write!(f, "{letter} {accidental} {} ", pitch.octave)?;
-        match meaning::half_step(pitch) {
-            Ok(step) => write!(f, "{step}"),
-            Err(refusal) => write!(f, "refused {}", refusal.reason.number()),
+fn put_half_step(out: &mut [u8], at: usize, pitch: Pitch) -> usize {
+    match meaning::half_step(pitch) {
+        Ok(step) => put_signed(out, at, step),
+        Err(refusal) => put_refusal(out, at, refusal),
+    }
+}
+
+// Letter, accidental, octave and half-step.
+fn put_pitch(out: &mut [u8], at: usize, pitch: Pitch) -> usize {
+    let to = put_word(out, at, letter_word(pitch.letter));
+    let to = put_word(out, to, accidental_word(pitch.accidental));
+    let to = put_number(out, to, u64::from(pitch.octave));
+    let to = put(out, to, b" ");
+    put_half_step(out, to, pitch)
+}
+
+// The word note, and its duration, shape and tie. Absolute pitch takes no time and has no shape and no tie, so
+// its word stands in front of the pitch alone.
+fn put_length(out: &mut [u8], at: usize, note: Note) -> usize {
+    let duration = duration_word(note.duration);
+    match note.duration {
+        Duration::AbsolutePitch => put_word(out, at, duration),
+        _ => {
+            let tie = if note.tied { "tied" } else { "-" };
+            let to = put_word(out, at, "note");
+            let to = put_word(out, to, duration);
+            let to = put_word(out, to, shape_word(note.shape));
+            put_word(out, to, tie)
         }
     }
 }
 
-// A note. Absolute pitch takes no time and has no shape and no tie, so its word stands in front of the pitch
-// alone.
-#[derive(Clone, Copy)]
-pub struct NoteWords(pub Note);
-
-impl fmt::Display for NoteWords {
-    fn fmt<W: fmt::Write>(&self, f: &mut fmt::Formatter<W>) -> fmt::Result {
-        let note = self.0;
-        let duration = duration_word(note.duration);
-        match note.duration {
-            Duration::AbsolutePitch => write!(f, "{duration} ")?,
-            _ => {
-                let tie = if note.tied { "tied" } else { "-" };
-                write!(f, "note {duration} {} {tie} ", shape_word(note.shape))?;
-            }
-        }
-        match note.tone {
-            Tone::Rest => f.write_str("rest"),
-            Tone::Sounds(pitch) => write!(f, "{}", PitchWords(pitch)),
-        }
+pub fn put_note(out: &mut [u8], at: usize, note: Note) -> usize {
+    let to = put_length(out, at, note);
+    match note.tone {
+        Tone::Rest => put(out, to, b"rest"),
+        Tone::Sounds(pitch) => put_pitch(out, to, pitch),
     }
 }
