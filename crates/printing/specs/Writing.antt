@@ -26,4 +26,5 @@ abbrev pub AppendsPrinted : Option (List ℕ) → Option (List ℕ) → Option (
 AppendsPrinted before after printed = IfSome printed (λ text. Appends before after text)
 
 abbrev pub TakesPartOfPrinted : Option (List ℕ) → Option (List ℕ) → Option (List ℕ) → Type 0
-TakesPartOfPrinted before after printed = IfSome printed (λ text. 0 < length text → TakesPart before after text)
+TakesPartOfPrinted before after printed =
+    IfSome printed (λ text. 0 < length text → TakesPart before after text)

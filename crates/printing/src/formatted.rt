@@ -1,5 +1,5 @@
-// What a value prints, such as a format's text, to a writer. std's write! does not say what a writer that fails
-// has taken, so the text is made first, and `write` writes it.
+// What a value prints, such as a format, to a writer. std's write! does not say what a writer that fails has
+// taken, so the text is made first, and `write` writes it.
 ghost use Rattle.std.specs.Prelude.{OnOk, OnErr};
 ghost use Rattle.printing.specs.Writing.{AppendsPrinted, TakesPartOfPrinted};
 
