@@ -1,13 +1,13 @@
 // What a line says of a file.
-use crate::text::Shown;
-use fields::Span;
+use crate::text;
 use files::errors;
 use mus::Song;
+use printing::{print, write};
 use refusals::{Reason, Refusal};
 use sapheader::Player;
 use sid::{Header, Kind};
+use std::io;
 use std::io::Write;
-use std::{fmt, io};
 
 pub fn format_of(kind: Kind) -> &'static str {
     match kind {
@@ -20,20 +20,19 @@ fn songs_word(n: u32) -> &'static str {
     if n == 1 { "song" } else { "songs" }
 }
 
-// A text of a file by its place, as it is shown.
-fn text(file: &[u8], place: Span) -> Shown<'_> {
-    Shown(fields::span_part(file, place))
-}
-
 // A tune that is accepted: its name, by whom it is, and the cells that it fills, from the first to the last.
 pub fn tune(out: &mut impl Write, file: &[u8], h: Header) -> io::Result<()> {
     let first = h.load as usize;
     let last = first.wrapping_add(h.payload.len).wrapping_sub(1) % 65536;
-    write!(out, ": {} accepted: ", format_of(h.kind))?;
-    write!(out, "\"{}\" by ", text(file, h.title))?;
-    write!(out, "\"{}\", ", text(file, h.author))?;
-    write!(out, "{} {}, ", h.songs, songs_word(h.songs as u32))?;
-    writeln!(out, "loads to ${first:04X}-${last:04X}")
+    print(out, format_args!(": {} accepted: ", format_of(h.kind)))?;
+    text::quote(out, fields::span_part(file, h.title))?;
+    print(out, " by ")?;
+    text::quote(out, fields::span_part(file, h.author))?;
+    print(
+        out,
+        format_args!(", {} {}, ", h.songs, songs_word(h.songs as u32)),
+    )?;
+    print(out, format_args!("loads to ${first:04X}-${last:04X}\n"))
 }
 
 // The letter of a SAP file's type.
@@ -48,43 +47,49 @@ fn letter(player: Player) -> char {
 
 // A SAP file that is accepted.
 pub fn sap(out: &mut impl Write, file: &[u8], h: sapheader::Header) -> io::Result<()> {
-    write!(out, ": SAP accepted: ")?;
+    print(out, ": SAP accepted: ")?;
     match h.name {
-        Some(place) => write!(out, "\"{}\"", text(file, place))?,
-        None => write!(out, "no name")?,
+        Some(place) => text::quote(out, fields::span_part(file, place))?,
+        None => print(out, "no name")?,
     }
     match h.author {
-        Some(place) => write!(out, " by \"{}\"", text(file, place))?,
-        None => write!(out, ", no author")?,
+        Some(place) => {
+            print(out, " by ")?;
+            text::quote(out, fields::span_part(file, place))?;
+        }
+        None => print(out, ", no author")?,
     }
-    write!(out, ", type {}, ", letter(h.player))?;
-    writeln!(out, "{} {}", h.songs, songs_word(h.songs))
+    print(out, format_args!(", type {}, ", letter(h.player)))?;
+    print(out, format_args!("{} {}\n", h.songs, songs_word(h.songs)))
 }
 
 // A song that is accepted.
 pub fn song(out: &mut impl Write, file: &[u8], s: Song) -> io::Result<()> {
-    write!(out, ": MUS accepted: voices of {}", s.voice1.events)?;
-    write!(out, ", {}", s.voice2.events)?;
-    write!(out, " and {} events, ", s.voice3.events)?;
-    writeln!(out, "\"{}\"", text(file, s.line1))
+    print(
+        out,
+        format_args!(": MUS accepted: voices of {}", s.voice1.events),
+    )?;
+    print(out, format_args!(", {}", s.voice2.events))?;
+    print(out, format_args!(" and {} events, ", s.voice3.events))?;
+    text::quote(out, fields::span_part(file, s.line1))?;
+    print(out, "\n")
 }
 
 // A reason in words.
-#[derive(Clone, Copy)]
-struct Phrase(Reason);
-
-impl fmt::Display for Phrase {
-    fn fmt<W: fmt::Write>(&self, f: &mut fmt::Formatter<W>) -> fmt::Result {
-        let mut words = [0u8; 80];
-        let n = reasons::reason(self.0.number(), &mut words);
-        write!(f, "{}", Shown(fields::part(&words, 0, n)))
-    }
+fn phrase(out: &mut impl Write, reason: Reason) -> io::Result<()> {
+    let mut words = [0u8; 80];
+    let n = reasons::reason(reason.number(), &mut words);
+    write(out, fields::part(&words, 0, n))?;
+    Ok(())
 }
 
 // A refusal's number, place and reason.
 pub fn refusal(out: &mut impl Write, x: Refusal) -> io::Result<()> {
-    write!(out, "{} at place {}: ", x.reason.number(), x.place)?;
-    write!(out, "{}", Phrase(x.reason))
+    print(
+        out,
+        format_args!("{} at place {}: ", x.reason.number(), x.place),
+    )?;
+    phrase(out, x.reason)
 }
 
 // The same in a song: the place of 27 to 31 names a pair, whose bytes are shown.
@@ -97,8 +102,12 @@ pub fn refusal_in_song(out: &mut impl Write, file: &[u8], x: Refusal) -> io::Res
         | Reason::HedZero => {
             let first = fields::byte_at(file, x.place);
             let second = fields::byte_at(file, x.place.wrapping_add(1));
-            write!(out, "{} at place {} ", x.reason.number(), x.place)?;
-            write!(out, "({first:02X} {second:02X}): {}", Phrase(x.reason))
+            print(
+                out,
+                format_args!("{} at place {} ", x.reason.number(), x.place),
+            )?;
+            print(out, format_args!("({first:02X} {second:02X}): "))?;
+            phrase(out, x.reason)
         }
         _ => refusal(out, x),
     }
@@ -120,14 +129,14 @@ pub fn error_words(n: i32) -> &'static str {
 }
 
 pub fn usage(out: &mut impl Write) -> io::Result<()> {
-    writeln!(
+    print(
         out,
-        "cardcheck reads the music files for a card, PSID, RSID, SAP and Sidplayer MUS, before it is pressed."
+        "cardcheck reads the music files for a card, PSID, RSID, SAP and Sidplayer MUS, before it is pressed.\n",
     )?;
-    writeln!(out, "use: cardcheck FILE..")?;
-    writeln!(
+    print(out, "use: cardcheck FILE..\n")?;
+    print(
         out,
-        "It prints a line for each file, that the panel takes it or why not, and how many were accepted."
+        "It prints a line for each file, that the panel takes it or why not, and how many were accepted.\n",
     )
 }
 
@@ -138,14 +147,17 @@ pub fn total(
     refused: usize,
     unreadable: usize,
 ) -> io::Result<()> {
-    write!(out, "{accepted} accepted, {refused} refused, ")?;
-    write!(out, "{unreadable} unreadable: ")?;
+    print(
+        out,
+        format_args!("{accepted} accepted, {refused} refused, "),
+    )?;
+    print(out, format_args!("{unreadable} unreadable: "))?;
     if (refused == 0) & (unreadable == 0) {
-        writeln!(out, "the card can be pressed")
+        print(out, "the card can be pressed\n")
     } else {
-        writeln!(
+        print(
             out,
-            "leave out or mend what is not accepted before the card is pressed"
+            "leave out or mend what is not accepted before the card is pressed\n",
         )
     }
 }

@@ -4,12 +4,12 @@
 
 use card::Judged;
 use files::{LoadError, errors};
+use printing::print;
 use refusals::Refusal;
 use std::env::{Env, FillError};
 use std::io;
 use std::io::Write;
 use std::rt::Files;
-use text::Name;
 
 mod lines;
 mod text;
@@ -32,38 +32,38 @@ const FILE: usize = 131073;
 // The end of a line of a file that is none of the four kinds.
 fn refuse_other(out: &mut impl Write, file: &[u8], x: Refusal) -> io::Result<()> {
     let empty = if file.is_empty() { " empty," } else { "" };
-    write!(
+    print(
         out,
-        ":{empty} neither PSID, RSID, SAP nor MUS (as MUS refused "
+        format_args!(":{empty} neither PSID, RSID, SAP nor MUS (as MUS refused "),
     )?;
     lines::refusal(out, x)?;
-    write!(out, ")")
+    print(out, ")")
 }
 
 // The end of a line of a file that is refused.
 fn refuse(out: &mut impl Write, file: &[u8], judged: Judged) -> io::Result<Checked> {
     match judged {
         Judged::RefusedTune(kind, x) => {
-            write!(out, ": {} refused ", lines::format_of(kind))?;
+            print(out, format_args!(": {} refused ", lines::format_of(kind)))?;
             lines::refusal(out, x)?;
         }
         Judged::RefusedSap(x) => {
-            write!(out, ": SAP refused ")?;
+            print(out, ": SAP refused ")?;
             lines::refusal(out, x)?;
         }
         Judged::RefusedSong(x) => {
-            write!(out, ": MUS refused ")?;
+            print(out, ": MUS refused ")?;
             lines::refusal_in_song(out, file, x)?;
         }
         Judged::Neither(x) => refuse_other(out, file, x)?,
         Judged::Tune(_) | Judged::Sap(_) | Judged::Song(_) => {}
     }
-    writeln!(out)?;
+    print(out, "\n")?;
     Ok(Checked::Refused)
 }
 
 fn check_file(out: &mut impl Write, name: &[u8], file: &[u8]) -> io::Result<Checked> {
-    write!(out, "{}", Name(name))?;
+    text::show_name(out, name)?;
     let judged = card::judge(file);
     match judged {
         Judged::Tune(h) => lines::tune(out, file, h)?,
@@ -77,7 +77,8 @@ fn check_file(out: &mut impl Write, name: &[u8], file: &[u8]) -> io::Result<Chec
 // A file that is not opened or not read, and why.
 fn cannot(out: &mut impl Write, name: &[u8], what: &str, error: i32) -> io::Result<Checked> {
     let why = lines::error_words(error);
-    writeln!(out, "{}{what}{why}", Name(name))?;
+    text::show_name(out, name)?;
+    print(out, format_args!("{what}{why}\n"))?;
     Ok(Checked::Unreadable)
 }
 
@@ -87,7 +88,8 @@ fn check_read(out: &mut impl Write, name: &[u8], file: &[u8]) -> io::Result<Chec
         return check_file(out, name, file);
     }
     let what = "SAP not looked at: over 131,072 bytes, more than cardcheck holds";
-    writeln!(out, "{}: {what}", Name(name))?;
+    text::show_name(out, name)?;
+    print(out, format_args!(": {what}\n"))?;
     Ok(Checked::Unreadable)
 }
 

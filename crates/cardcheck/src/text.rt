@@ -1,33 +1,37 @@
 // What is written, so that no byte of a file or a name upsets a terminal.
-use std::fmt;
+use printing::{print, write};
+use std::io;
+use std::io::Write;
 
-// A text: a letter, digit or sign of ASCII as it is, any other byte as \xNN.
-#[derive(Clone, Copy)]
-pub struct Shown<'a>(pub &'a [u8]);
-
-impl fmt::Display for Shown<'_> {
-    fn fmt<W: fmt::Write>(&self, f: &mut fmt::Formatter<W>) -> fmt::Result {
-        for &byte in self.0 {
-            if (0x20 <= byte) & (byte <= 0x7E) & (byte != b'\\') {
-                f.write_char(byte as char)?;
-            } else {
-                write!(f, "\\x{byte:02X}")?;
-            }
-        }
-        Ok(())
+// A byte of a text: a letter, digit or sign of ASCII as it is, any other as \xNN.
+fn show_byte(out: &mut impl Write, byte: u8) -> io::Result<()> {
+    if (0x20 <= byte) & (byte <= 0x7E) & (byte != b'\\') {
+        print(out, byte as char)
+    } else {
+        print(out, format_args!("\\x{byte:02X}"))
     }
 }
 
-// A file's name, which a line begins with; of one that has no letter the quotation marks.
-#[derive(Clone, Copy)]
-pub struct Name<'a>(pub &'a [u8]);
-
-impl fmt::Display for Name<'_> {
-    fn fmt<W: fmt::Write>(&self, f: &mut fmt::Formatter<W>) -> fmt::Result {
-        if self.0.is_empty() {
-            f.write_str("\"\"")
-        } else {
-            write!(f, "{}", Shown(self.0))
-        }
+// A text, byte by byte: no text that `print` takes at once is as long as a file's or a name's can be.
+pub fn show(out: &mut impl Write, text: &[u8]) -> io::Result<()> {
+    for &byte in text {
+        show_byte(out, byte)?;
     }
+    Ok(())
+}
+
+// A file's name, which a line begins with; of one that has no letter the quotation marks.
+pub fn show_name(out: &mut impl Write, name: &[u8]) -> io::Result<()> {
+    if name.is_empty() {
+        print(out, "\"\"")
+    } else {
+        show(out, name)
+    }
+}
+
+// A text in quotation marks.
+pub fn quote(out: &mut impl Write, text: &[u8]) -> io::Result<()> {
+    print(out, "\"")?;
+    show(out, text)?;
+    print(out, "\"")
 }

@@ -3,6 +3,7 @@
 #![tactic(auto)]
 
 use mus::Song;
+use printing::print;
 use std::io;
 use std::io::Write;
 
@@ -12,7 +13,9 @@ mod lines;
 // start, so windows are to be few: at most 8 for the 1,048,576 pairs that an accepted voice walks.
 const WINDOW: usize = 131072;
 
-// Shows a voice's events from number first on, as many as a window holds; answers whether to go on.
+// Shows a voice's events from number first on, as many as a window holds; answers whether to go on. It stays a
+// call of its own, so that a file that is refused needs no room for the two lists.
+#[inline(never)]
 fn show_window(out: &mut impl Write, file: &[u8], voice: u32, first: u32) -> io::Result<bool> {
     let mut offsets = [0u32; WINDOW];
     let mut jiffies = [0u32; WINDOW];
@@ -23,7 +26,7 @@ fn show_window(out: &mut impl Write, file: &[u8], voice: u32, first: u32) -> io:
         }
         // no voice of an accepted file is refused
         Err(refusal) => {
-            writeln!(out, "{refusal}")?;
+            print(out, format_args!("{refusal}\n"))?;
             Ok(false)
         }
     }
@@ -40,7 +43,7 @@ fn show_voice(out: &mut impl Write, file: &[u8], voice: u32, events: u32) -> io:
 }
 
 fn show_song(out: &mut impl Write, file: &[u8], song: Song) -> io::Result<()> {
-    writeln!(out, "voice event place jiffy")?;
+    print(out, "voice event place jiffy\n")?;
     let voices = [
         (1, song.voice1.events),
         (2, song.voice2.events),
@@ -57,7 +60,7 @@ fn show_song(out: &mut impl Write, file: &[u8], song: Song) -> io::Result<()> {
 fn report(out: &mut impl Write, file: &[u8]) -> io::Result<()> {
     match mus::accept(file) {
         Ok(song) => show_song(out, file, song),
-        Err(refusal) => writeln!(out, "{refusal}"),
+        Err(refusal) => print(out, format_args!("{refusal}\n")),
     }
 }
 

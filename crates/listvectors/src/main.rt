@@ -3,7 +3,7 @@
 #![tactic(auto)]
 
 use files::LoadError;
-use printing::write_failure;
+use printing::{print, write, write_failure};
 use refusals::Refusal;
 use std::io;
 use std::io::Write;
@@ -40,8 +40,8 @@ fn number(text: &[u8]) -> u64 {
 fn argument(rt: &HostRuntime, out: &mut impl Write, i: usize) -> io::Result<u64> {
     let mut word = [0u8; 32];
     let n = files::arg(rt, i, &mut word).unwrap_or(0);
-    write!(out, " ")?;
-    out.write_all(&word[..n])?;
+    print(out, " ")?;
+    write(out, &word[..n])?;
     Ok(number(&word[..n]))
 }
 
@@ -54,7 +54,7 @@ fn first_cells(cells: &mut [u32], n: u64) -> &mut [u32] {
 // Shows the cells that were lent, and two after them.
 fn show_lent(out: &mut impl Write, cells: &mut [u32], n: u64) -> io::Result<()> {
     for cell in first_cells(cells, n.wrapping_add(2)) {
-        write!(out, " {cell}")?;
+        print(out, format_args!(" {cell}"))?;
     }
     Ok(())
 }
@@ -85,14 +85,14 @@ fn run(
     mark(offsets, 4000000000);
     mark(jiffies, 3000000000);
     match list(file, call, offsets, jiffies) {
-        Ok(count) => write!(out, " count {count}")?,
-        Err(refusal) => write!(out, " refused {refusal}")?,
+        Ok(count) => print(out, format_args!(" count {count}"))?,
+        Err(refusal) => print(out, format_args!(" refused {refusal}"))?,
     }
-    write!(out, " offsets")?;
+    print(out, " offsets")?;
     show_lent(out, offsets, call.offsets)?;
-    write!(out, " jiffies")?;
+    print(out, " jiffies")?;
     show_lent(out, jiffies, call.jiffies)?;
-    writeln!(out)
+    print(out, "\n")
 }
 
 // Each list has 48 cells.
@@ -118,7 +118,7 @@ fn call_after(rt: &HostRuntime, out: &mut impl Write, i: usize) -> io::Result<Ca
 
 fn report_call(rt: &HostRuntime, name: &[u8], file: &[u8], i: usize) -> io::Result<()> {
     let mut out = rt.stdout();
-    out.write_all(name)?;
+    write(&mut out, name)?;
     let call = call_after(rt, &mut out, i)?;
     report(&mut out, file, call)
 }

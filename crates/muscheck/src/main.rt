@@ -3,21 +3,24 @@
 #![tactic(auto)]
 
 use mus::{Song, Voice};
+use printing::{print, write};
 use std::io;
 use std::io::Write;
 
 // A line of a voice: the file offset of its first pair, its pairs, and what acceptance reports of it.
 fn voice_line(out: &mut impl Write, number: u32, v: Voice) -> io::Result<()> {
     let pairs = v.length / 2;
-    writeln!(
+    print(
         out,
-        "voice {number} offset {} pairs {pairs} events {} walked {}",
-        v.offset, v.events, v.walked
+        format_args!(
+            "voice {number} offset {} pairs {pairs} events {} walked {}\n",
+            v.offset, v.events, v.walked
+        ),
     )
 }
 
 fn show_song(out: &mut impl Write, song: Song) -> io::Result<()> {
-    writeln!(out, "load {}", song.load)?;
+    print(out, format_args!("load {}\n", song.load))?;
     voice_line(out, 1, song.voice1)?;
     voice_line(out, 2, song.voice2)?;
     voice_line(out, 3, song.voice3)
@@ -26,9 +29,9 @@ fn show_song(out: &mut impl Write, song: Song) -> io::Result<()> {
 // The text lines, a line each, as their bytes are.
 fn show_text(out: &mut impl Write, file: &[u8], song: Song) -> io::Result<()> {
     for line in [song.line1, song.line2, song.line3, song.line4, song.line5] {
-        write!(out, "text ")?;
-        out.write_all(fields::span_part(file, line))?;
-        writeln!(out)?;
+        print(out, "text ")?;
+        write(out, fields::span_part(file, line))?;
+        print(out, "\n")?;
     }
     Ok(())
 }
@@ -39,7 +42,7 @@ fn report(out: &mut impl Write, file: &[u8]) -> io::Result<()> {
             show_song(out, song)?;
             show_text(out, file, song)
         }
-        Err(refusal) => writeln!(out, "{refusal}"),
+        Err(refusal) => print(out, format_args!("{refusal}\n")),
     }
 }
 

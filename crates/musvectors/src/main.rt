@@ -4,42 +4,44 @@
 
 use files::LoadError;
 use mus::{Song, Voice};
-use printing::write_failure;
+use printing::{print, write, write_failure};
 use std::io;
 use std::io::Write;
 
 fn show_voice(out: &mut impl Write, number: u32, v: Voice) -> io::Result<()> {
-    write!(
+    print(
         out,
-        " v{number} {} {} {} {}",
-        v.offset, v.length, v.events, v.walked
+        format_args!(
+            " v{number} {} {} {} {}",
+            v.offset, v.length, v.events, v.walked
+        ),
     )
 }
 
 fn show_song(out: &mut impl Write, song: Song) -> io::Result<()> {
-    write!(out, " accepted load {}", song.load)?;
+    print(out, format_args!(" accepted load {}", song.load))?;
     show_voice(out, 1, song.voice1)?;
     show_voice(out, 2, song.voice2)?;
     show_voice(out, 3, song.voice3)?;
-    write!(out, " lines")?;
+    print(out, " lines")?;
     for line in [song.line1, song.line2, song.line3, song.line4, song.line5] {
-        write!(out, " {} {}", line.from, line.len)?;
+        print(out, format_args!(" {} {}", line.from, line.len))?;
     }
     Ok(())
 }
 
 // A text line in brackets, which hold nothing where there is no such line and where the file is refused.
 fn show_text(out: &mut impl Write, file: &[u8], number: u64) -> io::Result<()> {
-    write!(out, "[")?;
+    print(out, "[")?;
     if let Ok(Some(line)) = mus::text_line(file, number) {
-        out.write_all(fields::span_part(file, line))?;
+        write(out, fields::span_part(file, line))?;
     }
-    write!(out, "]")
+    print(out, "]")
 }
 
 // What numbers 0 to 6, one that is 1 in 32 bits, and the type's greatest give: only 1 to 5 are lines.
 fn show_texts(out: &mut impl Write, file: &[u8]) -> io::Result<()> {
-    write!(out, " text ")?;
+    print(out, " text ")?;
     for number in [0, 1, 2, 3, 4, 5, 6, 4294967297, u64::MAX] {
         show_text(out, file, number)?;
     }
@@ -47,13 +49,13 @@ fn show_texts(out: &mut impl Write, file: &[u8]) -> io::Result<()> {
 }
 
 fn report(out: &mut impl Write, name: &[u8], file: &[u8]) -> io::Result<()> {
-    out.write_all(name)?;
+    write(out, name)?;
     match mus::accept(file) {
         Ok(song) => show_song(out, song)?,
-        Err(refusal) => write!(out, " refused {refusal}")?,
+        Err(refusal) => print(out, format_args!(" refused {refusal}"))?,
     }
     show_texts(out, file)?;
-    writeln!(out)
+    print(out, "\n")
 }
 
 // Reports the file that argument i names. Answers whether there is such an argument.

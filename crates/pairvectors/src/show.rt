@@ -1,5 +1,6 @@
 // A line for each answer: the label, and the bytes, the half-step or the refusal.
 use meaning::{Accidental, Duration, Letter, Meaning, Note, Pitch, Shape, Tone};
+use printing::print;
 use std::io;
 use std::io::Write;
 
@@ -10,8 +11,11 @@ pub type Row<T> = (&'static str, T);
 pub fn spellings(out: &mut impl Write, rows: &[Row<Meaning>]) -> io::Result<()> {
     for &(label, meaning) in rows {
         match pair::write(meaning) {
-            Ok(pair) => writeln!(out, "{label} {:02X} {:02X}", pair.first, pair.second)?,
-            Err(refusal) => writeln!(out, "{label} refused {refusal}")?,
+            Ok(pair) => print(
+                out,
+                format_args!("{label} {:02X} {:02X}\n", pair.first, pair.second),
+            )?,
+            Err(refusal) => print(out, format_args!("{label} refused {refusal}\n"))?,
         }
     }
     Ok(())
@@ -21,8 +25,8 @@ pub fn spellings(out: &mut impl Write, rows: &[Row<Meaning>]) -> io::Result<()> 
 pub fn half_steps(out: &mut impl Write, rows: &[Row<Pitch>]) -> io::Result<()> {
     for &(label, pitch) in rows {
         match meaning::half_step(pitch) {
-            Ok(step) => writeln!(out, "{label} {step}")?,
-            Err(refusal) => writeln!(out, "{label} refused {refusal}")?,
+            Ok(step) => print(out, format_args!("{label} {step}\n"))?,
+            Err(refusal) => print(out, format_args!("{label} refused {refusal}\n"))?,
         }
     }
     Ok(())

@@ -1,4 +1,5 @@
 pub mod Decimal
+pub mod Printed
 pub mod Room
 pub mod Signed
 pub mod Taken

@@ -2,9 +2,11 @@
 #![tactic(auto)]
 
 mod digits;
+mod formatted;
 mod output;
 mod text;
 
+pub use formatted::print;
 pub use output::{
     write, write_after, write_failure, write_hex, write_number, write_refusal, write_signed,
 };

@@ -3,6 +3,7 @@
 #![tactic(auto)]
 
 use fields::Span;
+use printing::{print, write};
 use sapblocks::{Block, Found};
 use sapheader::{Header, Player};
 use std::io;
@@ -18,15 +19,15 @@ fn show_type(out: &mut impl Write, player: Player) -> io::Result<()> {
         Player::D(_) => 'D',
         Player::S(_) => 'S',
     };
-    writeln!(out, "type {letter}")
+    print(out, format_args!("type {letter}\n"))
 }
 
 // A line of a word and a text as its bytes are, where there is such a text.
 fn text_line(out: &mut impl Write, word: &str, file: &[u8], place: Option<Span>) -> io::Result<()> {
     if let Some(span) = place {
-        write!(out, "{word} ")?;
-        out.write_all(fields::span_part(file, span))?;
-        writeln!(out)?;
+        print(out, format_args!("{word} "))?;
+        write(out, fields::span_part(file, span))?;
+        print(out, "\n")?;
     }
     Ok(())
 }
@@ -38,26 +39,29 @@ fn show_texts(out: &mut impl Write, file: &[u8], h: Header) -> io::Result<()> {
 }
 
 fn show_numbers(out: &mut impl Write, h: Header) -> io::Result<()> {
-    writeln!(out, "songs {}", h.songs)?;
-    writeln!(out, "default {}", h.default)?;
-    writeln!(out, "stereo {}", h.stereo as u8)?;
-    writeln!(out, "ntsc {}", h.ntsc as u8)?;
-    writeln!(out, "covox {}", h.covox as u8)?;
-    writeln!(out, "fastplay {}", h.fastplay)
+    print(out, format_args!("songs {}\n", h.songs))?;
+    print(out, format_args!("default {}\n", h.default))?;
+    print(out, format_args!("stereo {}\n", h.stereo as u8))?;
+    print(out, format_args!("ntsc {}\n", h.ntsc as u8))?;
+    print(out, format_args!("covox {}\n", h.covox as u8))?;
+    print(out, format_args!("fastplay {}\n", h.fastplay))
 }
 
 fn show_addresses(out: &mut impl Write, player: Player) -> io::Result<()> {
     match player {
-        Player::B(a) => writeln!(out, "init {}\nplayer {}", a.init, a.player),
-        Player::C(a) => writeln!(out, "music {}\nplayer {}", a.music, a.player),
+        Player::B(a) => print(out, format_args!("init {}\nplayer {}\n", a.init, a.player)),
+        Player::C(a) => print(
+            out,
+            format_args!("music {}\nplayer {}\n", a.music, a.player),
+        ),
         Player::D(a) => {
-            writeln!(out, "init {}", a.init)?;
+            print(out, format_args!("init {}\n", a.init))?;
             match a.player {
-                Some(address) => writeln!(out, "player {address}"),
+                Some(address) => print(out, format_args!("player {address}\n")),
                 None => Ok(()),
             }
         }
-        Player::S(a) => writeln!(out, "init {}", a.init),
+        Player::S(a) => print(out, format_args!("init {}\n", a.init)),
     }
 }
 
@@ -65,14 +69,20 @@ fn show_addresses(out: &mut impl Write, player: Player) -> io::Result<()> {
 fn show_times(out: &mut impl Write, file: &[u8], times: u64) -> io::Result<()> {
     for song in 0..times {
         if let Ok(Some(time)) = sapparts::time(file, song) {
-            writeln!(out, "time {} {}", time.milliseconds, time.looped as u8)?;
+            print(
+                out,
+                format_args!("time {} {}\n", time.milliseconds, time.looped as u8),
+            )?;
         }
     }
     Ok(())
 }
 
 fn show_block(out: &mut impl Write, block: Block) -> io::Result<()> {
-    writeln!(out, "block {} {} {}", block.start, block.end, block.from)
+    print(
+        out,
+        format_args!("block {} {} {}\n", block.start, block.end, block.from),
+    )
 }
 
 // A line for each block, from the first FF FF on. Of an accepted file none is bad. No index is counted: each
@@ -103,7 +113,7 @@ fn show(out: &mut impl Write, file: &[u8], h: Header) -> io::Result<()> {
 fn report(out: &mut impl Write, file: &[u8]) -> io::Result<()> {
     match sap::read(file) {
         Ok(h) => show(out, file, h),
-        Err(refusal) => writeln!(out, "{refusal}"),
+        Err(refusal) => print(out, format_args!("{refusal}\n")),
     }
 }
 
@@ -112,9 +122,9 @@ fn main(rt: HostRuntime) -> io::Result<()> {
     let mut file = [0u8; ROOM];
     let n = files::read_full(&mut rt.stdin(), &mut file)?;
     if n == ROOM {
-        return writeln!(
-            out,
-            "not looked at: over 131,072 bytes, more than sapinfo holds"
+        return print(
+            &mut out,
+            "not looked at: over 131,072 bytes, more than sapinfo holds\n",
         );
     }
     report(&mut out, &file[..n])

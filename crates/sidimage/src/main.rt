@@ -2,14 +2,18 @@
 // or the refusal's number and place.
 #![tactic(auto)]
 
+use printing::{print, write};
 use std::io;
 use std::io::Write;
 
 fn report(out: &mut impl Write, file: &[u8]) -> io::Result<()> {
     let mut memory = [0u8; 65536];
     match sidload::load(file, &mut memory) {
-        Ok(_) => out.write_all(&memory),
-        Err(refusal) => writeln!(out, "{refusal}"),
+        Ok(_) => {
+            write(out, &memory)?;
+            Ok(())
+        }
+        Err(refusal) => print(out, format_args!("{refusal}\n")),
     }
 }
 

@@ -1,6 +1,7 @@
 // Shows what a PSID or RSID file on standard input says of itself, or the refusal's number and place.
 #![tactic(auto)]
 
+use printing::{print, write};
 use sid::{Header, Kind};
 use std::io;
 use std::io::Write;
@@ -11,35 +12,38 @@ fn show_player(out: &mut impl Write, h: Header) -> io::Result<()> {
         Kind::Psid => "PSID",
         Kind::Rsid => "RSID",
     };
-    writeln!(out, "format {format}")?;
-    writeln!(out, "version {}", h.version)?;
-    writeln!(out, "load {}", h.load)?;
-    writeln!(out, "init {}", h.init)?;
-    writeln!(out, "play {}", h.play)?;
-    writeln!(out, "songs {}", h.songs)?;
-    writeln!(out, "start {}", h.start)?;
-    writeln!(out, "speed {}", h.speed)
+    print(out, format_args!("format {format}\n"))?;
+    print(out, format_args!("version {}\n", h.version))?;
+    print(out, format_args!("load {}\n", h.load))?;
+    print(out, format_args!("init {}\n", h.init))?;
+    print(out, format_args!("play {}\n", h.play))?;
+    print(out, format_args!("songs {}\n", h.songs))?;
+    print(out, format_args!("start {}\n", h.start))?;
+    print(out, format_args!("speed {}\n", h.speed))
 }
 
 fn show_flags(out: &mut impl Write, h: Header) -> io::Result<()> {
-    writeln!(out, "basic {}", h.basic as u8)?;
-    writeln!(out, "clock {}", h.clock)?;
-    writeln!(out, "model {}", h.model)?;
-    writeln!(out, "pages {} {}", h.page, h.pages)
+    print(out, format_args!("basic {}\n", h.basic as u8))?;
+    print(out, format_args!("clock {}\n", h.clock))?;
+    print(out, format_args!("model {}\n", h.model))?;
+    print(out, format_args!("pages {} {}\n", h.page, h.pages))
 }
 
 // A line of a word and a text, as its bytes are.
 fn text_line(out: &mut impl Write, word: &str, text: &[u8]) -> io::Result<()> {
-    write!(out, "{word} ")?;
-    out.write_all(text)?;
-    writeln!(out)
+    print(out, format_args!("{word} "))?;
+    write(out, text)?;
+    print(out, "\n")
 }
 
 fn show_parts(out: &mut impl Write, file: &[u8], h: Header) -> io::Result<()> {
     text_line(out, "title", tune::shown(file, h, Piece::Title))?;
     text_line(out, "author", tune::shown(file, h, Piece::Author))?;
     text_line(out, "released", tune::shown(file, h, Piece::Released))?;
-    writeln!(out, "payload {} {}", h.payload.from, h.payload.len)
+    print(
+        out,
+        format_args!("payload {} {}\n", h.payload.from, h.payload.len),
+    )
 }
 
 fn report(out: &mut impl Write, file: &[u8]) -> io::Result<()> {
@@ -49,7 +53,7 @@ fn report(out: &mut impl Write, file: &[u8]) -> io::Result<()> {
             show_flags(out, h)?;
             show_parts(out, file, h)
         }
-        Err(refusal) => writeln!(out, "{refusal}"),
+        Err(refusal) => print(out, format_args!("{refusal}\n")),
     }
 }
 

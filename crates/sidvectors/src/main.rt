@@ -3,7 +3,7 @@
 #![tactic(auto)]
 
 use files::LoadError;
-use printing::write_failure;
+use printing::{print, write, write_failure};
 use refusals::Refusal;
 use sid::{Header, Kind};
 use std::io;
@@ -28,7 +28,7 @@ fn show_cells(out: &mut impl Write, memory: &[u8]) -> io::Result<()> {
             sum = sum.wrapping_add(cell as usize);
         }
     }
-    writeln!(out, " cells {first} {count} {sum}")
+    print(out, format_args!(" cells {first} {count} {sum}\n"))
 }
 
 fn show_player(out: &mut impl Write, h: Header) -> io::Result<()> {
@@ -36,22 +36,42 @@ fn show_player(out: &mut impl Write, h: Header) -> io::Result<()> {
         Kind::Psid => "PSID",
         Kind::Rsid => "RSID",
     };
-    write!(out, " accepted {format} version {}", h.version)?;
-    write!(out, " load {} init {} play {}", h.load, h.init, h.play)?;
-    write!(
+    print(
         out,
-        " songs {} start {} speed {}",
-        h.songs, h.start, h.speed
+        format_args!(" accepted {format} version {}", h.version),
+    )?;
+    print(
+        out,
+        format_args!(" load {} init {} play {}", h.load, h.init, h.play),
+    )?;
+    print(
+        out,
+        format_args!(" songs {} start {} speed {}", h.songs, h.start, h.speed),
     )
 }
 
 fn show_parts(out: &mut impl Write, h: Header) -> io::Result<()> {
-    write!(out, " basic {} clock {}", h.basic as u8, h.clock)?;
-    write!(out, " model {} pages {} {}", h.model, h.page, h.pages)?;
-    write!(out, " title {} {}", h.title.from, h.title.len)?;
-    write!(out, " author {} {}", h.author.from, h.author.len)?;
-    write!(out, " released {} {}", h.released.from, h.released.len)?;
-    write!(out, " payload {} {}", h.payload.from, h.payload.len)
+    print(
+        out,
+        format_args!(" basic {} clock {}", h.basic as u8, h.clock),
+    )?;
+    print(
+        out,
+        format_args!(" model {} pages {} {}", h.model, h.page, h.pages),
+    )?;
+    print(out, format_args!(" title {} {}", h.title.from, h.title.len))?;
+    print(
+        out,
+        format_args!(" author {} {}", h.author.from, h.author.len),
+    )?;
+    print(
+        out,
+        format_args!(" released {} {}", h.released.from, h.released.len),
+    )?;
+    print(
+        out,
+        format_args!(" payload {} {}", h.payload.from, h.payload.len),
+    )
 }
 
 fn show_reading(out: &mut impl Write, answer: Result<Header, Refusal>) -> io::Result<()> {
@@ -60,18 +80,18 @@ fn show_reading(out: &mut impl Write, answer: Result<Header, Refusal>) -> io::Re
             show_player(out, h)?;
             show_parts(out, h)
         }
-        Err(refusal) => write!(out, " refused {refusal}"),
+        Err(refusal) => print(out, format_args!(" refused {refusal}")),
     }
 }
 
 // A line for a load into a memory that is not of 65,536 cells, or that is.
 fn load_line(out: &mut impl Write, name: &[u8], file: &[u8], memory: &mut [u8]) -> io::Result<()> {
     let answer = sidload::load(file, memory);
-    out.write_all(name)?;
-    write!(out, " memory {}", memory.len())?;
+    write(out, name)?;
+    print(out, format_args!(" memory {}", memory.len()))?;
     match answer {
-        Ok(_) => write!(out, " loaded")?,
-        Err(refusal) => write!(out, " refused {refusal}")?,
+        Ok(_) => print(out, " loaded")?,
+        Err(refusal) => print(out, format_args!(" refused {refusal}"))?,
     }
     show_cells(out, memory)
 }
@@ -95,29 +115,29 @@ fn asked(songs: u16) -> [(&'static str, u64); 10] {
 // A song's speed bit, or the refusal's number.
 fn show_speed(out: &mut impl Write, word: &str, answer: Result<u32, Refusal>) -> io::Result<()> {
     match answer {
-        Ok(bit) => write!(out, " {word}: {bit}"),
-        Err(refusal) => write!(out, " {word}: {}", refusal.reason.number()),
+        Ok(bit) => print(out, format_args!(" {word}: {bit}")),
+        Err(refusal) => print(out, format_args!(" {word}: {}", refusal.reason.number())),
     }
 }
 
 // A line with the speed bits of songs, or the refusal's number.
 fn song_line(out: &mut impl Write, name: &[u8], file: &[u8], songs: u16) -> io::Result<()> {
-    out.write_all(name)?;
-    write!(out, " song")?;
+    write(out, name)?;
+    print(out, " song")?;
     for (word, song) in asked(songs) {
         show_speed(out, word, sidspeed::speed_of_song(file, song))?;
     }
-    writeln!(out)
+    print(out, "\n")
 }
 
 // The same line by the header in hand.
 fn header_line(out: &mut impl Write, name: &[u8], h: Header, songs: u16) -> io::Result<()> {
-    out.write_all(name)?;
-    write!(out, " header")?;
+    write(out, name)?;
+    print(out, " header")?;
     for (word, song) in asked(songs) {
         show_speed(out, word, sid::song_speed(h, song))?;
     }
-    writeln!(out)
+    print(out, "\n")
 }
 
 // The end of a line with the parts of a file: the texts in brackets, and the payload's length.
@@ -128,19 +148,19 @@ fn show_pieces(
     released: &[u8],
     payload: &[u8],
 ) -> io::Result<()> {
-    write!(out, " [")?;
-    out.write_all(title)?;
-    write!(out, "] [")?;
-    out.write_all(author)?;
-    write!(out, "] [")?;
-    out.write_all(released)?;
-    writeln!(out, "] payload {}", payload.len())
+    print(out, " [")?;
+    write(out, title)?;
+    print(out, "] [")?;
+    write(out, author)?;
+    print(out, "] [")?;
+    write(out, released)?;
+    print(out, format_args!("] payload {}\n", payload.len()))
 }
 
 // A line with the parts of a file, by the spans of its header.
 fn piece_line(out: &mut impl Write, name: &[u8], file: &[u8], h: Header) -> io::Result<()> {
-    out.write_all(name)?;
-    write!(out, " pieces")?;
+    write(out, name)?;
+    print(out, " pieces")?;
     show_pieces(
         out,
         fields::span_part(file, h.title),
@@ -159,8 +179,8 @@ fn tune_line(
     n: usize,
 ) -> io::Result<()> {
     let cut = fields::part(file, 0, n);
-    out.write_all(name)?;
-    write!(out, " tune {n}")?;
+    write(out, name)?;
+    print(out, format_args!(" tune {n}"))?;
     show_pieces(
         out,
         tune::shown(cut, h, Piece::Title),
@@ -195,9 +215,9 @@ fn report_more(out: &mut impl Write, name: &[u8], file: &[u8]) -> io::Result<()>
 fn report(out: &mut impl Write, name: &[u8], file: &[u8], first_two: bool) -> io::Result<()> {
     let mut memory = [EMPTY; 65536];
     let answer = sid::read(file);
-    out.write_all(name)?;
+    write(out, name)?;
     show_reading(out, answer)?;
-    writeln!(out)?;
+    print(out, "\n")?;
     load_line(out, name, file, &mut memory)?;
     if first_two {
         report_more(out, name, file)?;

@@ -1,6 +1,7 @@
 // The sums of pairs. Where the paper names a note's first byte alone, the second is a rest; where it names
 // the second alone, the first is a plain 64th. Only what the paper's answers name has a word of its own.
 use meaning::{Accidental, Duration, Letter, Meaning, Note, Pitch, Shape, Tone};
+use printing::print;
 use std::io;
 use std::io::Write;
 
@@ -43,10 +44,10 @@ fn accidental_word(accidental: Accidental) -> &'static str {
 fn write_pitch(out: &mut impl Write, pitch: Pitch) -> io::Result<()> {
     let letter = letter_word(pitch.letter);
     let accidental = accidental_word(pitch.accidental);
-    write!(out, "{letter} {accidental} {} ", pitch.octave)?;
+    print(out, format_args!("{letter} {accidental} {} ", pitch.octave))?;
     match meaning::half_step(pitch) {
-        Ok(step) => write!(out, "{step}"),
-        Err(refusal) => write!(out, "refused {}", refusal.reason.number()),
+        Ok(step) => print(out, format_args!("{step}")),
+        Err(refusal) => print(out, format_args!("refused {}", refusal.reason.number())),
     }
 }
 
@@ -55,9 +56,9 @@ fn write_note(out: &mut impl Write, note: Note) -> io::Result<()> {
     let duration = duration_word(note.duration);
     let shape = shape_word(note.shape);
     let tie = if note.tied { "tied" } else { "-" };
-    write!(out, "{duration} {shape} {tie} ")?;
+    print(out, format_args!("{duration} {shape} {tie} "))?;
     match note.tone {
-        Tone::Rest => write!(out, "rest"),
+        Tone::Rest => print(out, "rest"),
         Tone::Sounds(pitch) => write_pitch(out, pitch),
     }
 }
@@ -65,22 +66,22 @@ fn write_note(out: &mut impl Write, note: Note) -> io::Result<()> {
 fn write_meaning(out: &mut impl Write, meaning: Meaning) -> io::Result<()> {
     match meaning {
         Meaning::Note(note) => write_note(out, note),
-        Meaning::Def(v) => write!(out, "DEF {v}"),
-        Meaning::Ps(z) => write!(out, "P-S {z}"),
-        Meaning::Tps(z) => write!(out, "TPS {z}"),
-        Meaning::Rtp(z) => write!(out, "RTP {z}"),
-        _ => write!(out, "another"),
+        Meaning::Def(v) => print(out, format_args!("DEF {v}")),
+        Meaning::Ps(z) => print(out, format_args!("P-S {z}")),
+        Meaning::Tps(z) => print(out, format_args!("TPS {z}")),
+        Meaning::Rtp(z) => print(out, format_args!("RTP {z}")),
+        _ => print(out, "another"),
     }
 }
 
 // A line of the two bytes and what they mean.
 fn show_pair(out: &mut impl Write, first: u8, second: u8) -> io::Result<()> {
-    write!(out, "{first:02X} {second:02X} ")?;
+    print(out, format_args!("{first:02X} {second:02X} "))?;
     match pair::read(first, second) {
         Ok(meaning) => write_meaning(out, meaning)?,
-        Err(refusal) => write!(out, "refused {}", refusal.reason.number())?,
+        Err(refusal) => print(out, format_args!("refused {}", refusal.reason.number()))?,
     }
-    writeln!(out)
+    print(out, "\n")
 }
 
 pub fn show_sums(out: &mut impl Write) -> io::Result<()> {

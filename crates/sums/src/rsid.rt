@@ -1,5 +1,6 @@
 // The sums of RSID: which effective init passes, given by the init field or, where that is 0, by the load
 // address.
+use printing::print;
 use std::io;
 use std::io::Write;
 
@@ -21,10 +22,10 @@ fn file_of(init: u16, load: u16) -> [u8; 130] {
 }
 
 fn show_file(out: &mut impl Write, init: u16, load: u16) -> io::Result<()> {
-    write!(out, "RSID load {load:04X} init {init:04X} ")?;
+    print(out, format_args!("RSID load {load:04X} init {init:04X} "))?;
     match sid::read(&file_of(init, load)) {
-        Ok(_) => writeln!(out, "passes"),
-        Err(refusal) => writeln!(out, "refused {}", refusal.reason.number()),
+        Ok(_) => print(out, "passes\n"),
+        Err(refusal) => print(out, format_args!("refused {}\n", refusal.reason.number())),
     }
 }
 

@@ -1,4 +1,5 @@
 // The sums of MUS files: the lines that the listing program prints of them.
+use printing::print;
 use std::io;
 use std::io::Write;
 
@@ -12,23 +13,23 @@ fn show_voice(out: &mut impl Write, file: &[u8], voice: u32) -> io::Result<()> {
         Ok(count) => {
             let cells = offsets.iter().zip(&jiffies).take(count);
             for (event, (offset, jiffy)) in cells.enumerate() {
-                writeln!(out, "{voice} {event} {offset} {jiffy}")?;
+                print(out, format_args!("{voice} {event} {offset} {jiffy}\n"))?;
             }
             Ok(())
         }
-        Err(refusal) => writeln!(out, "{refusal}"),
+        Err(refusal) => print(out, format_args!("{refusal}\n")),
     }
 }
 
 fn show_song(out: &mut impl Write, file: &[u8]) -> io::Result<()> {
     match mus::accept(file) {
         Ok(_) => {
-            writeln!(out, "voice event place jiffy")?;
+            print(out, "voice event place jiffy\n")?;
             show_voice(out, file, 1)?;
             show_voice(out, file, 2)?;
             show_voice(out, file, 3)
         }
-        Err(refusal) => writeln!(out, "{refusal}"),
+        Err(refusal) => print(out, format_args!("{refusal}\n")),
     }
 }
 
