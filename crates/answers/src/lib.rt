@@ -17,5 +17,7 @@ pub fn fill<T: Copy>(values: &[T], out: &mut [T])
     ensures { out.new ≡ front values.now out.old }
 {
     let count = values.len().min(out.len());
-    out[..count].copy_from_slice(&values[..count]);
+    for i in 0..count {
+        out[i] = values[i];
+    }
 }

@@ -89,10 +89,13 @@ pub fn entry_at(list: &[u8], mark: u8, number: usize) -> &[u8]
     list.split(|&byte| byte == mark).nth(number).unwrap_or(&[])
 }
 
-// internal: the bytes of src in the place of as many of memory's from at on. Callers see that they fit.
+// internal: the bytes of src in the place of as many of memory's from at on. Callers see that they fit. A loop:
+// for copy_from_slice the archive would need a memmove from outside.
 pub fn copy_to(src: &[u8], memory: &mut [u8], at: usize)
     requires { at + length src.now ≤ length memory.old }
     ensures { memory.new ≡ put memory.old at src.now }
 {
-    memory[at..at + src.len()].copy_from_slice(src);
+    for j in 0..src.len() {
+        memory[at + j] = src[j];
+    }
 }
