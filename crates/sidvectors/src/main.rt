@@ -13,9 +13,8 @@ use tune::Piece;
 // What a cell of memory holds before a load; no payload has this byte.
 const EMPTY: u8 = 0xA5;
 
-// The end of a line with the cells that a load has changed: the first, how many, and the sum of what they
-// hold.
-fn show_cells(out: &mut impl Write, memory: &[u8]) -> io::Result<()> {
+// The cells that a load has changed: the first, how many, and the sum of what they hold.
+fn changed(memory: &[u8]) -> (usize, usize, usize) {
     let mut first = 0;
     let mut count: usize = 0;
     let mut sum: usize = 0;
@@ -28,6 +27,12 @@ fn show_cells(out: &mut impl Write, memory: &[u8]) -> io::Result<()> {
             sum = sum.wrapping_add(cell as usize);
         }
     }
+    (first, count, sum)
+}
+
+// The end of a line with the cells that a load has changed.
+fn show_cells(out: &mut impl Write, memory: &[u8]) -> io::Result<()> {
+    let (first, count, sum) = changed(memory);
     print(out, format_args!(" cells {first} {count} {sum}\n"))
 }
 
