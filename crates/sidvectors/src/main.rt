@@ -13,26 +13,18 @@ use tune::Piece;
 // What a cell of memory holds before a load; no payload has this byte.
 const EMPTY: u8 = 0xA5;
 
-// The cells that a load has changed: the first, how many, and the sum of what they hold.
-fn changed(memory: &[u8]) -> (usize, usize, usize) {
-    let mut first = 0;
+// The end of a line with the cells that a load has changed: the first, how many, and the sum of what they
+// hold.
+fn show_cells(out: &mut impl Write, memory: &[u8]) -> io::Result<()> {
+    let first = memory.iter().position(|&cell| cell != EMPTY).unwrap_or(0);
     let mut count: usize = 0;
     let mut sum: usize = 0;
-    for (i, &cell) in memory.iter().enumerate() {
+    for &cell in memory {
         if cell != EMPTY {
-            if count == 0 {
-                first = i;
-            }
             count = count.wrapping_add(1);
             sum = sum.wrapping_add(cell as usize);
         }
     }
-    (first, count, sum)
-}
-
-// The end of a line with the cells that a load has changed.
-fn show_cells(out: &mut impl Write, memory: &[u8]) -> io::Result<()> {
-    let (first, count, sum) = changed(memory);
     print(out, format_args!(" cells {first} {count} {sum}\n"))
 }
 
