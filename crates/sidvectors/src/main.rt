@@ -16,14 +16,11 @@ const EMPTY: u8 = 0xA5;
 // The end of a line with the cells that a load has changed: the first, how many, and the sum of what they
 // hold.
 fn show_cells(out: &mut impl Write, memory: &[u8]) -> io::Result<()> {
-    let mut first = 0;
+    let first = memory.iter().position(|&cell| cell != EMPTY).unwrap_or(0);
     let mut count: usize = 0;
     let mut sum: usize = 0;
-    for (i, &cell) in memory.iter().enumerate() {
+    for &cell in memory {
         if cell != EMPTY {
-            if count == 0 {
-                first = i;
-            }
             count = count.wrapping_add(1);
             sum = sum.wrapping_add(cell as usize);
         }
