@@ -39,7 +39,7 @@ fn is_text_character(b: u8) -> bool
 pub fn after(bytes: &[u8], n: usize) -> &[u8]
     ensures { result.now ≡ drop n bytes.now }
 {
-    if n <= bytes.len() { &bytes[n..] } else { &[] }
+    &bytes[n.min(bytes.len())..]
 }
 
 // internal: the digits of a base that stand at the front of bytes.

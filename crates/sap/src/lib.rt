@@ -43,12 +43,15 @@ pub fn test(file: &[u8], song: u64, block: u64) -> Result<Tested, Refusal>
     if !begins(file) {
         return Err(Reason::SapFirstLine.into());
     }
-    let lines = saptext::read_lines(file, song).ok_or(Reason::SapLine)?;
-    if saprules::is_against(&lines) {
+    let read = saptext::read_lines(file, song);
+    let Some(lines) = &read else {
+        return Err(Reason::SapLine.into());
+    };
+    if saprules::is_against(lines) {
         return Err(Reason::SapTags.into());
     }
     let walked = sapblocks::walk(file, lines.end, block).ok_or(Reason::SapBlock)?;
-    let header = sapheader::header_of(&lines, walked.count);
+    let header = sapheader::header_of(lines, walked.count);
     let time = moment_for(lines.stated(Tag::Time));
     Ok(Tested {
         header,

@@ -1,19 +1,17 @@
 -- The tag at the front of bytes, by their first letter. Assumes nothing.
 -- beginning   the tags of a list whose names begin with a letter
 -- by_letter   an answer that is right among those is right among all
--- by_two      the first of two names that stands there
 use Prim.Native.Nat.{ℕ}
 use mathlib.Core.Path.{◌≡◌, refl, sym, ◌∙◌}
 use mathlib.Core.Bool.{Bool, true, false, cond}
 use mathlib.Core.List.{List, [], ◌∷◌}
-use Rattle.std.specs.Prelude.{Option, None}
-use Rattle.std.specs.Option.{option_or}
+use Rattle.std.specs.Prelude.{Option}
 use lib.ListN.{get_or}
 use lib.Dec.{eqb}
 use Rattle.logic.specs.Cases.{cases}
 use Rattle.characters.specs.Characters.{stands}
 use Rattle.saptags.specs.declared.Tag.{Tag}
-use Rattle.saptags.specs.Tags.{name_of, tags, named_by, tag_in, tag_at}
+use Rattle.saptags.specs.Tags.{name_of, tags, tag_in, tag_at}
 
 -- a word may stand at the front of bytes that begin with a letter
 abbrev may : ℕ → List ℕ → Bool
@@ -40,8 +38,3 @@ unfolding tag_at
 by_letter s letter e k found =
     let first : get_or s 0 0 ≡ letter = sym e ∙ k in
     found ∙ rw (← first) (in_beginning s tags)
-
--- the tag of a name, and where that does not stand there the tag of another
-pub by_two : {first second both : Option Tag} (name : List ℕ) (t : Tag) (other : List ℕ) (u : Tag) (s : List ℕ) → first ≡ named_by name t s None → second ≡ named_by other u s None
-    → both ≡ option_or first second → both ≡ named_by name t s (named_by other u s None)
-by_two name t other u s e k found = found ∙ rw (e, k) (cases (stands name s) (λ q. rw q) (λ q. rw q))

@@ -56,16 +56,26 @@ fn named(tag: Tag, bytes: &[u8]) -> Option<Tag>
     }
 }
 
+// The first of two tags whose name stands at the front of bytes.
+fn either(first: Tag, second: Tag, bytes: &[u8]) -> Option<Tag>
+    ensures { result ≡ named_by (name_of first) first bytes.now (named_by (name_of second) second bytes.now None) }
+{
+    if characters::stands(name_of(first), bytes) {
+        return Some(first);
+    }
+    named(second, bytes)
+}
+
 // internal: the tag whose name stands at the front of bytes. At most two names begin with the same letter.
 pub fn tag_at(bytes: &[u8]) -> Option<Tag>
     ensures { result ≡ tag_at bytes.now }
 {
     match fields::byte_at(bytes, 0) {
         b'A' => named(Tag::Author, bytes),
-        b'N' => named(Tag::Name, bytes).or(named(Tag::Ntsc, bytes)),
-        b'D' => named(Tag::Date, bytes).or(named(Tag::DefSong, bytes)),
-        b'S' => named(Tag::Songs, bytes).or(named(Tag::Stereo, bytes)),
-        b'T' => named(Tag::Type, bytes).or(named(Tag::Time, bytes)),
+        b'N' => either(Tag::Name, Tag::Ntsc, bytes),
+        b'D' => either(Tag::Date, Tag::DefSong, bytes),
+        b'S' => either(Tag::Songs, Tag::Stereo, bytes),
+        b'T' => either(Tag::Type, Tag::Time, bytes),
         b'F' => named(Tag::FastPlay, bytes),
         b'I' => named(Tag::Init, bytes),
         b'M' => named(Tag::Music, bytes),

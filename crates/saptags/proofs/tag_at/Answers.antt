@@ -2,25 +2,23 @@
 use mathlib.Core.Path.{refl}
 use native.Mathlib.Omega.{arith}
 use borrow.Author.Tests.{ne_eqb}
-use Rattle.saptags.proofs.Letters.{by_letter, by_two}
-use Rattle.saptags.specs.declared.Tag.{Tag}
-use Rattle.saptags.specs.Tags.{name_of}
+use Rattle.saptags.proofs.Letters.{by_letter}
 use Rattle.saptags.proofs.tag_at.Goals as goal
 
 pub returns-in-65 : goal.returns-in-65
 returns-in-65 c = by_letter c.args.bytes.now 0x41 c.byte_at.ensures c.in-65.is c.named.ensures
 
 pub returns-in-78 : goal.returns-in-78
-returns-in-78 c = by_letter c.args.bytes.now 0x4E c.byte_at.ensures c.in-78.is (by_two (name_of Tag.Name) Tag.Name (name_of Tag.Ntsc) Tag.Ntsc c.args.bytes.now c.named-in-78.ensures c.named-in-78-2.ensures c.or.ensures)
+returns-in-78 c = by_letter c.args.bytes.now 0x4E c.byte_at.ensures c.in-78.is c.either.ensures
 
 pub returns-in-68 : goal.returns-in-68
-returns-in-68 c = by_letter c.args.bytes.now 0x44 c.byte_at.ensures c.in-68.is (by_two (name_of Tag.Date) Tag.Date (name_of Tag.DefSong) Tag.DefSong c.args.bytes.now c.named-in-68.ensures c.named-in-68-2.ensures c.or-in-68.ensures)
+returns-in-68 c = by_letter c.args.bytes.now 0x44 c.byte_at.ensures c.in-68.is c.either-in-68.ensures
 
 pub returns-in-83 : goal.returns-in-83
-returns-in-83 c = by_letter c.args.bytes.now 0x53 c.byte_at.ensures c.in-83.is (by_two (name_of Tag.Songs) Tag.Songs (name_of Tag.Stereo) Tag.Stereo c.args.bytes.now c.named-in-83.ensures c.named-in-83-2.ensures c.or-in-83.ensures)
+returns-in-83 c = by_letter c.args.bytes.now 0x53 c.byte_at.ensures c.in-83.is c.either-in-83.ensures
 
 pub returns-in-84 : goal.returns-in-84
-returns-in-84 c = by_letter c.args.bytes.now 0x54 c.byte_at.ensures c.in-84.is (by_two (name_of Tag.Type) Tag.Type (name_of Tag.Time) Tag.Time c.args.bytes.now c.named-in-84.ensures c.named-in-84-2.ensures c.or-in-84.ensures)
+returns-in-84 c = by_letter c.args.bytes.now 0x54 c.byte_at.ensures c.in-84.is c.either-in-84.ensures
 
 pub returns-in-70 : goal.returns-in-70
 returns-in-70 c = by_letter c.args.bytes.now 0x46 c.byte_at.ensures c.in-70.is c.named-in-70.ensures
