@@ -11,7 +11,11 @@ fn step_number(v: i32) -> u64
     ensures { result ≡ step_number v }
 {
     let parts = signed::parts_of(v);
-    if parts.negative { 0 } else { parts.size as u64 + 1 }
+    if parts.negative {
+        0
+    } else {
+        parts.size as u64 + 1
+    }
 }
 
 // The number of a tone's half-step; a rest has none.
