@@ -16,7 +16,9 @@ mod turn;
 
 // internal: fills the first count cells of both lists with the file offsets and jiffies of a voice's events
 // from number first on. The voice is one that acceptance let pass; base is the file offset of its first pair,
-// walked its pairs walked. One step a pair walked, and none after the last event asked for.
+// walked its pairs walked. One step a pair walked, and none after the last event asked for. It stays a call of its
+// own: made part of its callers, the loop took up to a half more time in some of them (docs/LOOK-BACK.md).
+#[inline(never)]
 pub fn list_voice(
     voice: &[u8],
     base: usize,
