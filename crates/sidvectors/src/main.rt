@@ -19,7 +19,7 @@ fn show_cells(out: &mut impl Write, memory: &[u8]) -> io::Result<()> {
     let first = memory.iter().position(|&cell| cell != EMPTY).unwrap_or(0);
     let mut count: usize = 0;
     let mut sum: usize = 0;
-    for &cell in memory {
+    for &cell in fields::part(memory, first, memory.len()) {
         if cell != EMPTY {
             count = count.wrapping_add(1);
             sum = sum.wrapping_add(cell as usize);
