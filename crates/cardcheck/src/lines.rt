@@ -1,4 +1,7 @@
 // What a line says of a file.
+ghost use Rattle.std.specs.Prelude.{◌≡◌, [], get_or};
+ghost use Rattle.cardcheck.specs.Errors.{error_texts};
+
 use crate::text;
 use files::errors;
 use mus::Song;
@@ -113,19 +116,40 @@ pub fn refusal_in_song(out: &mut impl Write, file: &[u8], x: Refusal) -> io::Res
     }
 }
 
-// Why a file is not opened or not read.
-pub fn error_words(n: i32) -> &'static str {
-    match n {
-        errors::ENOENT => "there is no such file",
-        errors::EACCES => "no right to read it",
-        errors::EISDIR => "it is a folder",
-        errors::ENOTDIR => "a part of its path is no folder",
-        errors::ENAMETOOLONG => "its name is too long",
-        errors::EINVAL => "its name cannot be a file's",
-        errors::ELOOP => "its links go round in a circle",
-        errors::EIO => "the disk or card does not give it",
-        _ => "the machine does not give it",
+// The number of an error's words.
+fn words_number(error: i32) -> usize {
+    match error {
+        errors::ENOENT => 1,
+        errors::EACCES => 2,
+        errors::EISDIR => 3,
+        errors::ENOTDIR => 4,
+        errors::ENAMETOOLONG => 5,
+        errors::EINVAL => 6,
+        errors::ELOOP => 7,
+        errors::EIO => 8,
+        _ => 0,
     }
+}
+
+// The words with a number, from 0 on, of those that say why a file is not opened or not read.
+fn words_at(number: usize) -> &'static [u8]
+    ensures { result.now ≡ get_or error_texts number [] }
+{
+    let words = b"the machine does not give it\n\
+        there is no such file\n\
+        no right to read it\n\
+        it is a folder\n\
+        a part of its path is no folder\n\
+        its name is too long\n\
+        its name cannot be a file's\n\
+        its links go round in a circle\n\
+        the disk or card does not give it\n";
+    fields::entry_at(words, b'\n', number)
+}
+
+// Why a file is not opened or not read.
+pub fn error_words(error: i32) -> &'static [u8] {
+    words_at(words_number(error))
 }
 
 pub fn usage(out: &mut impl Write) -> io::Result<()> {

@@ -4,7 +4,7 @@
 
 use card::Judged;
 use files::{LoadError, errors};
-use printing::print;
+use printing::{print, write};
 use refusals::Refusal;
 use std::env::{Env, FillError};
 use std::io;
@@ -76,9 +76,10 @@ fn check_file(out: &mut impl Write, name: &[u8], file: &[u8]) -> io::Result<Chec
 
 // A file that is not opened or not read, and why.
 fn cannot(out: &mut impl Write, name: &[u8], what: &str, error: i32) -> io::Result<Checked> {
-    let why = lines::error_words(error);
     text::show_name(out, name)?;
-    print(out, format_args!("{what}{why}\n"))?;
+    print(out, what)?;
+    write(out, lines::error_words(error))?;
+    print(out, "\n")?;
     Ok(Checked::Unreadable)
 }
 

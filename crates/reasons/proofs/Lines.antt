@@ -1,5 +1,4 @@
 -- The phrases as one list, in the order of the numbers from 0 on with an end mark after each, and the table's.
--- phrase_lines    the phrases of the numbers below a bound
 -- phrases-held   one of them by its number is the table's, of every number
 use Prim.Native.Nat.{ℕ, zero, suc, ◌+◌, ◌≤◌}
 use mathlib.Core.Path.{◌≡◌, refl, sym, ap, ◌∙◌}
@@ -13,12 +12,9 @@ use Rattle.fields.specs.Entries.{entry_at, entries_joined, entry-joined}
 use Rattle.refusals.specs.declared.Reason.{Reason}
 use Rattle.refusals.specs.Numbers.{number_of}
 use Rattle.logic.specs.Truth.{both}
-use Rattle.reasons.specs.Phrases.{table, found, phrase_at}
+use Rattle.reasons.specs.Phrases.{table, found, phrase_at, bound, phrases_from, phrase_lines}
 
--- every line of the table has a number below this one
-abbrev bound : ℕ
-bound = 55
-
+-- every line of the table has a number below the bound
 abbrev bounded : List Reason → Bool
 bounded [] = true
 bounded (r ∷ rs) = ltb (number_of r) bound && bounded rs
@@ -30,18 +26,10 @@ none_past (r ∷ rs) n e h =
     let l = ltb-true (number_of r) bound b.0 in
     rw (ne_eqb n (number_of r) (λ q. omega arith)) (none_past rs n b.1 h)
 
--- k phrases, from number i on
-abbrev phrases_from : ℕ → ℕ → List (List ℕ)
-phrases_from i zero = []
-phrases_from i (suc k) = phrase_at i ∷ phrases_from (i + 1) k
-
 phrase-from : (i k n : ℕ) → i + k ≡ bound → get_or (phrases_from i k) n [] ≡ phrase_at (i + n)
 phrase-from i zero n e = sym (none_past table (i + n) refl (omega arith))
 phrase-from i (suc k) zero e = let m : i ≡ i + 0 = omega arith in ap phrase_at m
 phrase-from i (suc k) (suc n) e = let m : i + 1 + n ≡ i + suc n = omega arith in phrase-from (i + 1) k n (omega arith) ∙ ap phrase_at m
-
-abbrev pub phrase_lines : List (List ℕ)
-phrase_lines = phrases_from 0 bound
 
 pub phrases-held : (n : ℕ) → entry_at (entries_joined 10 phrase_lines) 10 n ≡ phrase_at n
 phrases-held n = let m : 0 + n ≡ n = omega arith in entry-joined 10 phrase_lines n refl ∙ phrase-from 0 bound n refl ∙ ap phrase_at m

@@ -1,4 +1,5 @@
--- The table's phrase of a number is that of the reason with this number. Assumes nothing.
+-- The table's phrase of a number is that of the reason with this number, and none where there is no such
+-- reason. Assumes nothing.
 use Rattle.std.specs.Prelude.{Result, Ok, Err, ℕ, ◌≡◌, List, [], ◌∷◌, eqb}
 use Rattle.std.proofs.Common.{refl, sym, ap, ◌∙◌}
 use Rattle.std.proofs.lemmas.Bool.Decides.{nat_tests}
@@ -24,3 +25,7 @@ found_numbered (r ∷ rs) n = cases (eqb n (number_of r)) (λ e. rw (e, flipped 
 -- The phrase of a number that a reason has is that reason's.
 pub phrase_numbered : (n : ℕ) (r : Reason) → reason_numbered n ≡ Ok r → byte_text (phrase_of r) ≡ phrase_at n
 phrase_numbered n r e = sym (found_numbered table n ∙ ap phrase_for e)
+
+-- A number that no reason has has no phrase.
+pub phrase_unnumbered : (n : ℕ) (x : UnknownNumber) → reason_numbered n ≡ Err x → phrase_at n ≡ []
+phrase_unnumbered n x e = found_numbered table n ∙ ap phrase_for e

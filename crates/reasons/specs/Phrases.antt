@@ -2,7 +2,11 @@
 -- phrase_of          a phrase for each line of the table
 -- table             the table's lines, in the order of their numbers
 -- found, phrase_at   the phrase of a number; nothing where the table has no such number
-use Rattle.std.specs.Prelude.{ℕ, List, [], ◌∷◌, cond, eqb}
+-- bound              a number above all numbers of the table
+-- phrases_from       so many phrases, from a number on
+-- phrase_lines       the phrases as lines, one for each number from 0 on: empty where the table has no such
+--                    number
+use Rattle.std.specs.Prelude.{ℕ, zero, suc, ◌+◌, List, [], ◌∷◌, cond, eqb}
 use Prim.Native.String.{String}
 use Rattle.fields.specs.Parts.{byte_text}
 use Rattle.refusals.specs.declared.Reason.{Reason}
@@ -55,3 +59,13 @@ found (r ∷ rs) n = cond (eqb n (number_of r)) (byte_text (phrase_of r)) (found
 
 abbrev pub phrase_at : ℕ → List ℕ
 phrase_at n = found table n
+
+abbrev pub bound : ℕ
+bound = 55
+
+abbrev pub phrases_from : ℕ → ℕ → List (List ℕ)
+phrases_from i zero = []
+phrases_from i (suc k) = phrase_at i ∷ phrases_from (i + 1) k
+
+abbrev pub phrase_lines : List (List ℕ)
+phrase_lines = phrases_from 0 bound

@@ -3,7 +3,8 @@
 
 ghost use Rattle.std.specs.Prelude.{◌≡◌, length};
 ghost use Rattle.fields.specs.Parts.{byte_text, front};
-ghost use Rattle.reasons.specs.Phrases.{phrase_of, phrase_at};
+ghost use Rattle.fields.specs.Entries.{entry_at, entries_joined};
+ghost use Rattle.reasons.specs.Phrases.{phrase_of, phrase_at, phrase_lines};
 
 use refusals::Reason;
 
@@ -53,10 +54,12 @@ fn phrase_of(reason: Reason) -> &'static str
 }
 
 // Puts the phrase of a number into the first cells of a list, as much of it as fits, and answers the phrase's
-// whole length; nothing and 0 for a number that the table does not have.
+// whole length; nothing and 0 for a number that the table does not have. Written as the lines of one text, in
+// the order of the numbers from 0 on, the phrases have it as the line with this number.
 pub fn reason(number: u32, out: &mut [u8]) -> usize
     ensures answer { result ≡ length (phrase_at number) }
     ensures cells { out.new ≡ front (phrase_at number) out.old }
+    ensures line { out.new ≡ front (entry_at (entries_joined 10 phrase_lines) 10 number) out.old }
 {
     let Ok(reason) = Reason::try_from(number) else {
         return 0;

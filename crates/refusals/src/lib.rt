@@ -54,7 +54,7 @@ pub enum Reason {
 }
 
 impl Reason {
-    // internal: the paper's number.
+    // The paper's number.
     pub fn number(self) -> u32
         ensures { result ≡ number_of self }
     {
@@ -192,12 +192,11 @@ pub struct Test {
 pub fn first_of(tests: &[Test]) -> Result<(), Reason>
     ensures { result ≡ first_of tests.now }
 {
+    let mut verdict = Ok(());
     for test in tests {
-        if test.applies {
-            return Err(test.reason);
-        }
+        verdict = tested(verdict, test.applies, test.reason);
     }
-    Ok(())
+    verdict
 }
 
 // internal: the verdict after one more test, for tests that are made one by one: a verdict that refuses stays.
